@@ -1,0 +1,11 @@
+pub mod Cube
+pub mod Shape
+pub mod Id
+pub mod IdFields
+pub mod Region
+pub mod Face
+pub mod Tiling
+pub mod Walk
+pub mod IdText
+pub mod TextBuffer
+pub mod TextParts
