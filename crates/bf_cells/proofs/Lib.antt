@@ -1,0 +1,10 @@
+pub mod PlaceLemmas
+pub mod GridLemmas
+pub mod WallLemmas
+pub mod KernelLemmas
+pub mod RowLemmas
+pub mod PlaneLemmas
+pub mod SpreadLemmas
+pub mod OctantLemmas
+pub mod FillLemmas
+pub mod CellLemmas

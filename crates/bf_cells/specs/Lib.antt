@@ -1,0 +1,6 @@
+pub mod Grid
+pub mod Shell
+pub mod ShellFields
+pub mod Kernel
+pub mod Rows
+pub mod Octant

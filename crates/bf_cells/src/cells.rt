@@ -1,0 +1,176 @@
+ghost use Rattle.std.specs.Prelude.{◌≡◌, ◌+◌, ◌*◌, ◌%◌, ◌<◌, ◌≤◌, length, IfOk};
+ghost use Rattle.bf_cells.specs.Grid.{IsGrid, cell_at, filled_with, with_cell, with_row, spread_of};
+ghost use Rattle.bf_cells.specs.Kernel.{relaxed_grid};
+ghost use Rattle.bf_cells.specs.Octant.{octant_copy_of, with_octant_mean};
+
+use crate::Memory;
+use crate::cubes::relax_cube;
+use crate::extremes::{greatest, least};
+use crate::octants::{copy_part, mean_part, octant_low};
+use crate::places::{cube_place, row_start};
+use crate::rows::fill_between;
+use crate::shell::Shell;
+use std::alloc::Global;
+use std::marker::Model;
+
+/// A cube of cells, each a number of 32 bits.
+#[derive(Debug, Drop)]
+pub struct Cells {
+    side: u32,
+    values: Vec<u32>,
+}
+
+impl Model for Cells {
+    ghost use Rattle.bf_cells.specs.Grid.{Grid, IsGrid};
+
+    ghost Value = { Grid };
+
+    ghost view = { λ c. record { side = c.side; values = c.values.items } };
+
+    ghost invariant = { λ c. IsGrid (record { side = c.side; values = c.values.items }) };
+}
+
+impl Cells {
+    /// A cube whose cells all have one value.
+    pub fn filled(alloc: Global, side: u32, value: u32) -> Result<Self, Memory>
+        requires even { side % 2 ≡ 0 }
+        requires low { 2 ≤ side }
+        requires high { side ≤ 16 }
+        ensures cells { IfOk result (λ c. c ≡ filled_with side value) }
+        ensures side { IfOk result (λ c. c.side ≡ side) }
+    {
+        let count = (side * side * side) as usize;
+        let values = vec![in alloc; value; count]?;
+        Ok(Cells { side, values })
+    }
+
+    /// How many cells an edge has.
+    pub fn side(&self) -> u32
+        ensures side { result ≡ self.now.side }
+        ensures valid { IsGrid self.now }
+    {
+        self.side
+    }
+
+    /// The value of a cell.
+    pub fn get(&self, x: u32, y: u32, z: u32) -> u32
+        requires x_below { x < self.now.side }
+        requires y_below { y < self.now.side }
+        requires z_below { z < self.now.side }
+        ensures { result ≡ cell_at self.now x y z }
+    {
+        let values = self.values.as_slice();
+        values[cube_place(self.side, x, y, z)]
+    }
+
+    /// Gives a cell another value.
+    pub fn put(&mut self, x: u32, y: u32, z: u32, value: u32)
+        requires x_below { x < self.old.side }
+        requires y_below { y < self.old.side }
+        requires z_below { z < self.old.side }
+        ensures { self.new ≡ with_cell self.old x y z value }
+    {
+        let at = cube_place(self.side, x, y, z);
+        self.values[at] = value;
+    }
+
+    /// All values, x fastest, then y, then z.
+    pub fn values(&self) -> &[u32]
+        ensures values { result.now ≡ self.now.values }
+        ensures len { length result.now ≡ self.now.side * self.now.side * self.now.side }
+        ensures valid { IsGrid self.now }
+    {
+        self.values.as_slice()
+    }
+
+    /// Cells of the same values.
+    pub fn copy(&self) -> Result<Self, Memory>
+        ensures { IfOk result (λ c. c ≡ self.now) }
+    {
+        let values = self.values.as_slice().to_vec(*self.values.allocator())?;
+        Ok(Cells {
+            side: self.side,
+            values,
+        })
+    }
+
+    /// One step: each cell of `into` becomes the mean of this cell, counted twice, and its six neighbours, rounded down.
+    /// Beyond a face the shell's values are the neighbours.
+    pub fn kernel(&self, shell: &Shell, into: &mut Cells)
+        requires shell { shell.now.side ≡ self.now.side }
+        requires into { into.old.side ≡ self.now.side }
+        ensures cells { into.new ≡ relaxed_grid self.now shell.now }
+        ensures side { into.new.side ≡ into.old.side }
+    {
+        relax_cube(
+            shell.around(self.values.as_slice()),
+            into.values.as_mut_slice(),
+        );
+    }
+
+    /// The greatest value of a cell less the least.
+    pub fn spread(&self) -> u32
+        ensures { result ≡ spread_of self.now }
+    {
+        let values = self.values.as_slice();
+        greatest(values) - least(values)
+    }
+
+    /// Each cell of an octant, eight times. Octant `x + 2y + 4z` lies on the high half of each axis that is 1.
+    pub fn octant_copy(&self, octant: u32) -> Result<Self, Memory>
+        requires { octant < 8 }
+        ensures cells { IfOk result (λ c. c ≡ octant_copy_of self.now octant) }
+        ensures side { IfOk result (λ c. c.side ≡ self.now.side) }
+    {
+        let side = self.side as usize;
+        let (x0, y0, z0) = octant_low(side, octant as usize);
+        let alloc = *self.values.allocator();
+        let mut values = vec![in alloc; 0u32; side * side * side]?;
+        copy_part(
+            self.values.as_slice(),
+            side,
+            x0,
+            y0,
+            z0,
+            values.as_mut_slice(),
+        );
+        Ok(Cells {
+            side: self.side,
+            values,
+        })
+    }
+
+    /// Writes into an octant of `into` the mean of each eight cells that form a cube, rounded down.
+    pub fn octant_mean(&self, octant: u32, into: &mut Cells)
+        requires octant { octant < 8 }
+        requires sides { into.old.side ≡ self.now.side }
+        ensures cells { into.new ≡ with_octant_mean self.now octant into.old }
+        ensures side { into.new.side ≡ into.old.side }
+    {
+        let side = self.side as usize;
+        let (x0, y0, z0) = octant_low(side, octant as usize);
+        mean_part(
+            self.values.as_slice(),
+            side,
+            x0,
+            y0,
+            z0,
+            into.values.as_mut_slice(),
+        );
+    }
+
+    /// Gives one value to the cells from `x` up to `end`, which is not among them, of the row at y and z.
+    pub fn put_row(&mut self, x: u32, end: u32, y: u32, z: u32, value: u32)
+        requires ordered { x ≤ end }
+        requires end { end ≤ self.old.side }
+        requires y_below { y < self.old.side }
+        requires z_below { z < self.old.side }
+        ensures cells { self.new ≡ with_row self.old x end y z value }
+        ensures side { self.new.side ≡ self.old.side }
+    {
+        let side = self.side as usize;
+        let start = row_start(self.side, y, z);
+        let row = &mut self.values[start..start + side];
+        fill_between(row, x as usize, end as usize, value);
+    }
+}

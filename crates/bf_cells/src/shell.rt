@@ -1,0 +1,129 @@
+ghost use Rattle.std.specs.Prelude.{◌≡◌, ◌+◌, ◌*◌, ◌%◌, ◌<◌, ◌≤◌, length, IfOk};
+ghost use Rattle.bf_cells.specs.Shell.{IsShell, blank_walls, with_value, with_wall, face_values};
+
+use crate::Memory;
+use crate::cells::Cells;
+use crate::cubes::Cube;
+use crate::faces::copy_face;
+use crate::places::square_place;
+use std::alloc::Global;
+use std::marker::Model;
+
+/// What surrounds a cube of cells: one square of values for each face.
+///
+/// The faces are counted x low, x high, y low, y high, z low, z high.
+#[derive(Debug, Drop)]
+pub struct Shell {
+    side: u32,
+    x_low: Vec<u32>,
+    x_high: Vec<u32>,
+    y_low: Vec<u32>,
+    y_high: Vec<u32>,
+    z_low: Vec<u32>,
+    z_high: Vec<u32>,
+}
+
+impl Model for Shell {
+    ghost use Rattle.bf_cells.specs.Shell.{Walls, IsShell};
+
+    ghost Value = { Walls };
+
+    ghost use Rattle.bf_cells.specs.ShellFields.{walls_in};
+
+    ghost view = { walls_in };
+
+    ghost invariant = { λ s. IsShell (walls_in s) };
+}
+
+impl Shell {
+    /// A shell of zeros.
+    pub fn blank(alloc: Global, side: u32) -> Result<Self, Memory>
+        requires even { side % 2 ≡ 0 }
+        requires low { 2 ≤ side }
+        requires high { side ≤ 16 }
+        ensures { IfOk result (λ s. s ≡ blank_walls side) }
+    {
+        let count = (side * side) as usize;
+        Ok(Shell {
+            side,
+            x_low: vec![in alloc; 0u32; count]?,
+            x_high: vec![in alloc; 0u32; count]?,
+            y_low: vec![in alloc; 0u32; count]?,
+            y_high: vec![in alloc; 0u32; count]?,
+            z_low: vec![in alloc; 0u32; count]?,
+            z_high: vec![in alloc; 0u32; count]?,
+        })
+    }
+
+    /// How many values an edge of a square has.
+    pub fn side(&self) -> u32
+        ensures side { result ≡ self.now.side }
+        ensures valid { IsShell self.now }
+    {
+        self.side
+    }
+
+    /// Gives another value to the place next to a face's cell, by the cell's two other coordinates in the order x, y, z.
+    pub fn put(&mut self, face: u32, a: u32, b: u32, value: u32)
+        requires face { face < 6 }
+        requires a_below { a < self.old.side }
+        requires b_below { b < self.old.side }
+        ensures values { self.new ≡ with_value self.old face a b value }
+        ensures side { self.new.side ≡ self.old.side }
+    {
+        let at = square_place(self.side, a, b);
+        match face {
+            0 => self.x_low[at] = value,
+            1 => self.x_high[at] = value,
+            2 => self.y_low[at] = value,
+            3 => self.y_high[at] = value,
+            4 => self.z_low[at] = value,
+            _ => self.z_high[at] = value,
+        }
+    }
+
+    /// Makes the square of a face hold the cells' own values on one of their faces, in the same order.
+    pub fn set_wall(&mut self, face: u32, cells: &Cells, of_face: u32)
+        requires face { face < 6 }
+        requires of_face { of_face < 6 }
+        requires sides { cells.now.side ≡ self.old.side }
+        ensures values { self.new ≡ with_wall self.old face (face_values cells.now of_face) }
+        ensures side { self.new.side ≡ self.old.side }
+    {
+        let side = self.side as usize;
+        let values = cells.values();
+        match face {
+            0 => copy_face(values, side, of_face, self.x_low.as_mut_slice()),
+            1 => copy_face(values, side, of_face, self.x_high.as_mut_slice()),
+            2 => copy_face(values, side, of_face, self.y_low.as_mut_slice()),
+            3 => copy_face(values, side, of_face, self.y_high.as_mut_slice()),
+            4 => copy_face(values, side, of_face, self.z_low.as_mut_slice()),
+            _ => copy_face(values, side, of_face, self.z_high.as_mut_slice()),
+        }
+    }
+
+    // A cube of cells with this shell round it.
+    pub(crate) fn around<'a>(&'a self, cells: &'a [u32]) -> Cube<'a>
+        requires { length cells.now ≡ self.now.side * self.now.side * self.now.side }
+        ensures valid { IsShell self.now }
+        ensures side { result.side ≡ self.now.side }
+        ensures cells { result.cells.now ≡ cells.now }
+        ensures x_low { result.x_low.now ≡ self.now.x_low }
+        ensures x_high { result.x_high.now ≡ self.now.x_high }
+        ensures y_low { result.y_low.now ≡ self.now.y_low }
+        ensures y_high { result.y_high.now ≡ self.now.y_high }
+        ensures z_low { result.z_low.now ≡ self.now.z_low }
+        ensures z_high { result.z_high.now ≡ self.now.z_high }
+    {
+        Cube {
+            side: self.side as usize,
+            cells,
+            x_low: self.x_low.as_slice(),
+            x_high: self.x_high.as_slice(),
+            y_low: self.y_low.as_slice(),
+            y_high: self.y_high.as_slice(),
+            z_low: self.z_low.as_slice(),
+            z_high: self.z_high.as_slice(),
+        }
+    }
+}

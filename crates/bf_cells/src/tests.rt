@@ -1,0 +1,64 @@
+ghost use Rattle.std.specs.Prelude.{◌≡◌, IfOk};
+
+use crate::{Cells, Memory, Shell};
+use std::alloc::Global;
+use std::test::Fail;
+
+// A shell that gives each cell at a face its own value as the neighbour.
+fn mirror(alloc: Global, cells: &Cells) -> Result<Shell, Memory>
+    ensures { IfOk result (λ s. s.side ≡ cells.now.side) }
+{
+    let mut shell = Shell::blank(alloc, cells.side())?;
+    shell.set_wall(0, cells, 0);
+    shell.set_wall(1, cells, 1);
+    shell.set_wall(2, cells, 2);
+    shell.set_wall(3, cells, 3);
+    shell.set_wall(4, cells, 4);
+    shell.set_wall(5, cells, 5);
+    Ok(shell)
+}
+
+#[test]
+fn a_corner_spreads(rt: HostRuntime) -> Result<(), Fail> {
+    let mut cells = Cells::filled(rt.alloc(), 2, 0)?;
+    cells.put(0, 0, 0, 8);
+    let mut next = cells.copy()?;
+    let shell = mirror(rt.alloc(), &cells)?;
+    cells.kernel(&shell, &mut next);
+    assert_eq!(rt; next.values(), [5, 1, 1, 0, 1, 0, 0, 0].as_slice());
+    assert_eq!(rt; next.spread(), 5);
+    Ok(())
+}
+
+#[test]
+fn the_greatest_values_stay(rt: HostRuntime) -> Result<(), Fail> {
+    let cells = Cells::filled(rt.alloc(), 2, u32::MAX)?;
+    let mut next = Cells::filled(rt.alloc(), 2, 0)?;
+    let shell = mirror(rt.alloc(), &cells)?;
+    cells.kernel(&shell, &mut next);
+    assert_eq!(rt; next.values(), [u32::MAX; 8].as_slice());
+    Ok(())
+}
+
+#[test]
+fn octants_go_both_ways(rt: HostRuntime) -> Result<(), Fail> {
+    let mut cells = Cells::filled(rt.alloc(), 2, 3)?;
+    cells.put_row(0, 2, 1, 0, 10);
+    let copy = cells.octant_copy(2)?;
+    assert_eq!(rt; copy.values(), [10; 8].as_slice());
+    let mut into = Cells::filled(rt.alloc(), 2, 0)?;
+    cells.octant_mean(4, &mut into);
+    assert_eq!(rt; into.values(), [0, 0, 0, 0, 4, 0, 0, 0].as_slice());
+    Ok(())
+}
+
+#[test]
+fn a_wall_counts_once(rt: HostRuntime) -> Result<(), Fail> {
+    let cells = Cells::filled(rt.alloc(), 2, 0)?;
+    let mut next = cells.copy()?;
+    let mut shell = Shell::blank(rt.alloc(), 2)?;
+    shell.put(3, 1, 0, 80);
+    cells.kernel(&shell, &mut next);
+    assert_eq!(rt; next.values(), [0, 0, 0, 10, 0, 0, 0, 0].as_slice());
+    Ok(())
+}
