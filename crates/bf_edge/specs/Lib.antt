@@ -1,0 +1,6 @@
+-- Words of the contracts: counts of faults, sources, sinks, and the two forms in memory.
+pub mod Faults
+pub mod Source
+pub mod Sink
+pub mod MemSource
+pub mod MemSink
