@@ -1,0 +1,13 @@
+pub mod Case
+pub mod CaseText
+pub mod Reading
+pub mod Map
+pub mod Sample
+pub mod Stencil
+pub mod Wishes
+pub mod Refinement
+pub mod Merging
+pub mod Regrid
+pub mod Model
+pub mod MapText
+pub mod Rows

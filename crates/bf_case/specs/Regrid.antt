@@ -1,0 +1,35 @@
+-- Regridding: refined leaves give way to their children and merging octets to their parents.
+use Rattle.std.specs.Prelude.{ℕ, ◌==◌, ◌&&◌, nat_lt, if◌then◌else◌, List, [], ◌∷◌, map, flat_map}
+use Rattle.bf_id.specs.declared.shape.Shape.{Shape}
+use Rattle.bf_id.specs.Id.{BlockId, level_of, parent_of, octant_of, children_of}
+use Rattle.bf_cells.specs.Grid.{table}
+use Rattle.bf_case.specs.declared.case.Case.{Case}
+use Rattle.bf_case.specs.Map.{Leaf, ids_of}
+use Rattle.bf_case.specs.Sample.{cell_corner, sample}
+use Rattle.bf_case.specs.Wishes.{Wishes, wishes_of}
+use Rattle.bf_case.specs.Refinement.{is_among, refined_ids}
+use Rattle.bf_case.specs.Merging.{merges}
+
+-- the new leaves that stand where an old one stood: its children, or its parent where it is the first of a merging octet and nothing where it is
+-- another of them, or itself
+abbrev pub heirs_of : Shape → List BlockId → Wishes → BlockId → List BlockId
+heirs_of shape ids w i =
+    let refined = refined_ids shape ids w in
+    if is_among refined i then children_of i
+    else (if nat_lt 0 (level_of i) && merges shape ids w refined (parent_of i)
+    then (if octant_of i == 0 then parent_of i ∷ [] else [])
+    else i ∷ [])
+
+-- the leaves after a regrid, in their order
+unfoldable pub regridded_ids : Shape → List BlockId → Wishes → List BlockId
+regridded_ids shape ids w = flat_map (heirs_of shape ids w) ids
+
+-- a leaf whose every cell is the sample of a map there
+abbrev pub sampled_leaf : Shape → ℕ → List Leaf → BlockId → Leaf
+sampled_leaf shape side leaves i =
+    (i, table side (λ x y z. sample shape side leaves (level_of i) (cell_corner shape side i x y z)))
+
+-- the map after a regrid
+unfoldable pub regrid : Case → List Leaf → List Leaf
+regrid c leaves =
+    map (sampled_leaf c.roots c.side leaves) (regridded_ids c.roots (ids_of leaves) (wishes_of c leaves))

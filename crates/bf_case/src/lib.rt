@@ -1,0 +1,17 @@
+//! Cases, and the model of a simulation: which map it has at each time.
+//!
+//! The model is a definition. It has one map of leaves for each time and knows of no ranks and no
+//! messages. [`Case::valid`] tells the cases that it is for, [`laws`] has what is proved of maps,
+//! and [`rows`] has small cases whose maps are written out.
+#![tactic(auto)]
+
+mod case;
+mod items;
+pub mod laws;
+mod map;
+pub mod rows;
+mod validity;
+
+pub use case::{Case, Fill};
+pub use items::Items;
+pub use map::Map;

@@ -1,0 +1,11 @@
+use crate::items::Items;
+use bf_cells::Cells;
+use bf_id::Id;
+
+/// The leaves of a forest with their cells, at one time. They stand in rising order of their ids.
+#[derive(Drop)]
+pub struct Map {
+    /// Cells along the edge of each leaf.
+    pub side: u32,
+    pub leaves: Items<(Id, Cells)>,
+}
