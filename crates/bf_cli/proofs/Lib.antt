@@ -1,0 +1,13 @@
+pub mod Axis
+pub mod RootSteps
+pub mod RootsAround
+pub mod StepLoop
+pub mod Front
+pub mod Lines
+pub mod Heads
+pub mod FillLines
+pub mod Texts
+pub mod PageLemmas
+pub mod RunLoop
+pub mod BoxLemmas
+pub mod AnswerLemmas

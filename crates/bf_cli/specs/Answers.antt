@@ -1,0 +1,108 @@
+-- What the program answers, and why.
+use Rattle.std.specs.Prelude.{◌≡◌, ◌⊎◌, ℕ, ◌+◌, List, [], ◌∷◌, ◌++◌, Option, codes, decimal, IfSome, Contains}
+use Rattle.bf_edge.specs.Faults.{Rose}
+use Rattle.bf_edge.specs.Sink.{appended, AppendsPrefix}
+use Rattle.bf_edge.specs.Source.{left_after}
+use Rattle.bf_case.specs.declared.case.Case.{Case}
+use Rattle.bf_case.specs.Reading.{input_limit, Spells, IsRefused}
+use Rattle.bf_case.specs.Model.{model}
+use Rattle.bf_case.specs.MapText.{map_text}
+use Rattle.bf_cli.specs.declared.status.Status.{Status}
+use Rattle.bf_cli.specs.declared.status.Status.TheVariants as status
+
+-- the words of the one command
+abbrev pub IsOne : List (List ℕ) → Type 0
+IsOne words = words ≡ codes "one" ∷ []
+
+-- the answer is one of these
+abbrev pub IsAmong : List Status → Status → Type 0
+IsAmong answers answer = Contains answers answer
+
+-- the number with which the program ends
+abbrev pub number_of : Status → ℕ
+number_of status.Ok = 0
+number_of status.Usage = 2
+number_of (status.Refused line code) = 3
+number_of status.Memory = 5
+number_of status.ReadFault = 6
+number_of status.WriteFault = 7
+
+-- the line that tells an answer; the map is told by its text, and a fault in writing by nothing more
+abbrev pub status_line : Status → List ℕ
+status_line status.Ok = []
+status_line status.Usage = codes "usage\n"
+status_line (status.Refused line code) = (codes "refused line " ++ decimal line) ++ (codes " code " ++ decimal code) ++ codes "\n"
+status_line status.Memory = codes "memory\n"
+status_line status.ReadFault = codes "read fault\n"
+status_line status.WriteFault = []
+
+-- the bytes spell a case that is served, and the text is that of its map after all steps
+abbrev pub PrintsModel : List ℕ → List ℕ → Type 0
+PrintsModel text bytes = ((c : Case) × Spells bytes c) × ((c : Case) → Spells bytes c → text ≡ map_text (model c c.steps))
+
+-- the whole input was read
+abbrev pub WasRead : Status → Type 0
+WasRead status.Ok = Unit {0}
+WasRead (status.Refused line code) = Unit {0}
+WasRead s = ⊥
+
+-- why this answer may come, for these words, for the bytes of the source where they are told, and for its count of faults before and after;
+-- and the text that goes with it
+abbrev pub IsAnswer : List (List ℕ) → Option (List ℕ) → ℕ → ℕ → Status → List ℕ → Type 0
+IsAnswer words left before after status.Ok text = IsOne words × IfSome left (PrintsModel text) × (after ≡ before)
+IsAnswer words left before after status.Usage text = (IsOne words → ⊥) × (text ≡ status_line status.Usage) × (after ≡ before)
+IsAnswer words left before after (status.Refused line code) text =
+    IsOne words × IfSome left (λ bytes. IsRefused bytes line code) × (text ≡ status_line (status.Refused line code)) × (after ≡ before)
+IsAnswer words left before after status.Memory text = IsOne words × (text ≡ status_line status.Memory) × (after ≡ before)
+IsAnswer words left before after status.ReadFault text = IsOne words × (text ≡ status_line status.ReadFault) × Rose before after
+IsAnswer words left before after status.WriteFault text = ⊥
+
+-- the answer that was meant was written whole, with no fault; or a fault came in writing it, and the front of its text is written
+abbrev pub Tells : Status → List ℕ → Status → Option (List ℕ) → Option (List ℕ) → ℕ → ℕ → Type 0
+Tells meant text answer old new before after =
+    ((answer ≡ meant) × (new ≡ appended old text) × (after ≡ before))
+    ⊎ ((answer ≡ status.WriteFault) × AppendsPrefix old new text × Rose before after)
+
+-- what a call has to its source: the bytes left before and after, where they are told, and the count of faults before and after
+pub record SourceEnds : Type 0 where
+  pub left : Option (List ℕ)
+  pub left_then : Option (List ℕ)
+  pub faults : ℕ
+  pub faults_then : ℕ
+
+-- what it has to its sink: the bytes written before and after, where they are told, and the count of faults before and after
+pub record SinkEnds : Type 0 where
+  pub written : Option (List ℕ)
+  pub written_then : Option (List ℕ)
+  pub faults : ℕ
+  pub faults_then : ℕ
+
+-- a call means an answer that has its cause, and tells it: also where the sink fails, what is written is the front of such an answer,
+-- and the input was read whole where that answer needs it
+pub record Answers (words : List (List ℕ)) (source : SourceEnds) (sink : SinkEnds) (answer : Status) : Type 0 where
+  pub meant : Status
+  pub text : List ℕ
+  pub cause : IsAnswer words source.left source.faults source.faults_then meant text
+  pub whole : WasRead meant → source.left_then ≡ left_after source.left (input_limit + 1)
+  pub told : Tells meant text answer sink.written sink.written_then sink.faults sink.faults_then
+
+-- a fact of the line and the code of a refusal
+abbrev pub OnRefused : Status → (ℕ → ℕ → Type 0) → Type 0
+OnRefused (status.Refused line code) P = P line code
+OnRefused s P = Unit {0}
+
+-- the answer is told by one line
+abbrev pub IsLine : Status → Type 0
+IsLine status.Ok = ⊥
+IsLine status.WriteFault = ⊥
+IsLine s = Unit {0}
+
+-- the text of the map of a case that the bytes spell has been written, and nothing else
+abbrev pub WroteModel : Option (List ℕ) → Option (List ℕ) → List ℕ → Type 0
+WroteModel old new bytes = (c : Case) × Spells bytes c × (new ≡ appended old (map_text (model c c.steps)))
+
+-- the text of this case's map has been written, or the line that tells want of memory
+abbrev pub IsDone : Case → Status → Option (List ℕ) → Option (List ℕ) → Type 0
+IsDone c answer old new =
+    ((answer ≡ status.Ok) × (new ≡ appended old (map_text (model c c.steps))))
+    ⊎ ((answer ≡ status.Memory) × (new ≡ appended old (status_line status.Memory)))

@@ -1,0 +1,6 @@
+pub mod Roots
+pub mod Reader
+pub mod Page
+pub mod Filling
+pub mod Answers
+pub mod Told
