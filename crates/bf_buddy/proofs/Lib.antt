@@ -1,0 +1,4 @@
+pub mod BitLemmas
+pub mod BuddyLemmas
+pub mod LossLemmas
+pub mod LawLemmas

@@ -1,0 +1,4 @@
+pub mod Members
+pub mod Buddy
+pub mod Losses
+pub mod Bits

@@ -1,0 +1,42 @@
+use crate::{Members, first_lost};
+use std::test::Fail;
+
+#[test]
+fn an_empty_home_is_not_lost(rt: HostRuntime) -> Result<(), Fail> {
+    let homes = Members::all(16);
+    let live = homes.without(3).without(4);
+    let filled = Members::all(1);
+    assert_eq!(rt; first_lost(homes, filled, live, 0), None);
+    assert_eq!(rt; first_lost(homes, homes, live, 0), Some((3, 4)));
+    assert_eq!(rt; first_lost(homes, homes, live, 1), None);
+    Ok(())
+}
+
+#[test]
+fn the_first_of_three_is_lost(rt: HostRuntime) -> Result<(), Fail> {
+    let homes = Members::all(3);
+    let live = homes.without(0).without(1);
+    assert_eq!(rt; first_lost(homes, homes, live, 0), Some((0, 1)));
+    assert_eq!(rt; first_lost(homes, homes, live, 1), Some((1, 0)));
+    Ok(())
+}
+
+#[test]
+fn a_lone_home_is_lost(rt: HostRuntime) -> Result<(), Fail> {
+    let homes = Members::all(1);
+    assert_eq!(rt; first_lost(homes, homes, Members::all(0), 5), Some((0, 0)));
+    assert_eq!(rt; first_lost(homes, homes, homes, 5), None);
+    Ok(())
+}
+
+#[test]
+fn ranks_go_to_thirty_one(rt: HostRuntime) -> Result<(), Fail> {
+    let members = Members::all(32);
+    assert!(rt; members.has(31));
+    assert!(rt; !members.has(32));
+    assert_eq!(rt; members.count(), 32);
+    assert_eq!(rt; members.place(31), Some(31));
+    assert_eq!(rt; members.without(30).place(31), Some(30));
+    assert_eq!(rt; members.without(30).at(31), None);
+    Ok(())
+}
