@@ -1,7 +1,7 @@
 -- Ranks as the bits of a number.
 use Rattle.std.proofs.Common.{◌≡◌, ◌≢◌, ℕ, suc, zero, ◌+◌, ◌-◌, ◌*◌, ◌/◌, ◌%◌, ◌^◌, ◌<◌, ◌≤◌, Bool, true, false, cond, not, ◌&&◌, List, [], ◌∷◌, arith, refl, ap, sym, ◌∙◌, inl, inr, get_or, lit<}
-use Rattle.std.specs.Prelude.{◌==◌, filter, bit_and}
-use Rattle.std.specs.List.{range_with_len}
+use Rattle.std.specs.Prelude.{◌==◌, Option, filter, bit_and}
+use Rattle.std.specs.List.{range_with_len, position_from}
 use Rattle.std.specs.Int.{bit_at}
 use Rattle.std.proofs.lemmas.Bool.Decides.{nat_tests}
 use Rattle.std.proofs.lemmas.Nat.Bits.{shr_and_one, bit_at_ones, bit_at_ones_above}
@@ -20,12 +20,20 @@ use Rattle.std.specs.Prelude.{All, slice_index, slice_get, Some, None}
 use Rattle.std.specs.List.{list_any}
 use Rattle.std.specs.List.Sorted.{IsStrictlyIncreasing}
 use Rattle.std.specs.Int.{w32}
-use Rattle.bf_buddy.specs.Members.{has_bit, ranks_from, ranks_in, is_member, without, place_from, place_in}
+use Rattle.bf_buddy.specs.Members.{has_bit, ranks_in, is_member, without, place_in}
 
 -- the code's test of a bit
 pub has_bit_test : (bits rank : ℕ) → has_bit bits rank ≡ (bit_and (bits / 2 ^ rank) 1 == 1)
 unfolding has_bit
 has_bit_test bits rank = rw shr_and_one refl
+
+-- the ranks from one on whose bits are 1
+unfoldable pub ranks_from : ℕ → ℕ → List ℕ
+ranks_from bits rank = filter (has_bit bits) (range_with_len rank (32 - rank))
+
+-- the place of a rank among ranks of which the first has some place
+unfoldable pub place_from : (rank place : ℕ) → List ℕ → Option ℕ
+place_from rank place ranks = position_from (λ member. member == rank) place ranks
 
 pub ranks_from-zero : (bits : ℕ) → ranks_in bits ≡ ranks_from bits 0
 unfolding ranks_in ranks_from

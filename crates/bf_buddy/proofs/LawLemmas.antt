@@ -43,6 +43,10 @@ buddy_undoes members rank shift up member =
     ∙ ap (slice_index members) (buddy_of_predecessor (length members) (place_of members rank) shift within)
     ∙ at_place members rank member
 
+pub ruleset buddy_facts = (buddy_at, buddy_is_another, predecessor_undoes)
+
+pub ruleset predecessor_facts = (predecessor_at, buddy_undoes)
+
 place_agrees : (count place shift turns : ℕ) → buddy_place count place (shift + turns * (count - 1)) ≡ buddy_place count place shift
 unfolding buddy_place
 place_agrees count place shift turns = ap (λ r. (place + 1 + r) % count) (add-mul-mod_self_right shift turns (count - 1))

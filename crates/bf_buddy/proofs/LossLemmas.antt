@@ -6,8 +6,12 @@ use Rattle.std.proofs.lemmas.Bool.{eqb-true}
 use Rattle.std.proofs.lemmas.Bool.Decides.{nat_tests}
 use Rattle.bf_buddy.specs.Members.{is_member, ranks_in, has_bit}
 use Rattle.bf_buddy.specs.Buddy.{buddy_of}
-use Rattle.bf_buddy.specs.Losses.{is_lost, first_lost_home, first_lost_of, lost_from, LosesNothing}
-use Rattle.bf_buddy.proofs.BitLemmas.{ranks_from-zero, ranks_from-end, ranks_from-has, ranks_from-lacks, is_member-ranks_in}
+use Rattle.bf_buddy.specs.Losses.{is_lost, first_lost_home, first_lost_of, LosesNothing}
+use Rattle.bf_buddy.proofs.BitLemmas.{ranks_from, ranks_from-zero, ranks_from-end, ranks_from-has, ranks_from-lacks, is_member-ranks_in}
+
+-- the first lost home from a rank on, of homes that are bits
+unfoldable pub lost_from : (homes filled live : List ℕ) (shift bits rank : ℕ) → Option ℕ
+lost_from homes filled live shift bits rank = find (is_lost homes filled live shift) (ranks_from bits rank)
 
 -- the bit of a home
 home_bit : (homes : List ℕ) (bits home : ℕ) (b : Bool) → homes ≡ ranks_in bits → home < 32 → is_member homes home ≡ b → has_bit bits home ≡ b

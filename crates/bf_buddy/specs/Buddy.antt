@@ -6,7 +6,7 @@ use Rattle.std.specs.List.{position_or_len}
 abbrev pub place_of : List ℕ → ℕ → ℕ
 place_of members rank = position_or_len (λ member. member == rank) members
 
--- the place of the buddy of the member at a place: one to `count - 1` places on, round the end
+-- the place of the buddy of the member at a place: of two or more one to `count - 1` places on, round the end; of one 0
 unfoldable pub buddy_place : (count place shift : ℕ) → ℕ
 buddy_place count place shift = (place + 1 + shift % (count - 1)) % count
 

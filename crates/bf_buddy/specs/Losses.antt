@@ -1,7 +1,7 @@
 -- Homes whose part of a snapshot is lost.
 use Rattle.std.specs.Prelude.{ℕ, Bool, not, ◌&&◌, ◌||◌, IsTrue, List, Option, find}
 use Rattle.std.specs.Option.{option_map}
-use Rattle.bf_buddy.specs.Members.{is_member, ranks_from}
+use Rattle.bf_buddy.specs.Members.{is_member}
 use Rattle.bf_buddy.specs.Buddy.{buddy_of}
 
 -- whether a home is filled, and both it and its buddy among the homes are dead
@@ -22,7 +22,3 @@ first_lost_of homes filled live shift =
 abbrev pub LosesNothing : (homes filled live : List ℕ) (shift : ℕ) → Type 0
 LosesNothing homes filled live shift = (home : ℕ) → IsTrue (is_member homes home) → IsTrue (is_member filled home)
     → IsTrue (is_member live home || is_member live (buddy_of homes home shift))
-
--- the first lost home from a rank on, of homes that are bits
-unfoldable pub lost_from : (homes filled live : List ℕ) (shift bits rank : ℕ) → Option ℕ
-lost_from homes filled live shift bits rank = find (is_lost homes filled live shift) (ranks_from bits rank)

@@ -1,6 +1,6 @@
 -- The members of a run: ranks in rising order.
-use Rattle.std.specs.Prelude.{ℕ, ◌+◌, ◌-◌, ◌^◌, Bool, not, List, [], ◌∷◌, Option, filter, position, ◌==◌}
-use Rattle.std.specs.List.{range_with_len, list_any, position_from}
+use Rattle.std.specs.Prelude.{ℕ, ◌+◌, ◌^◌, Bool, not, List, [], ◌∷◌, Option, filter, position, ◌==◌}
+use Rattle.std.specs.List.{range_with_len, list_any}
 use Rattle.std.specs.Int.{bit_at}
 
 -- whether a rank is a member
@@ -18,14 +18,6 @@ without members rank = filter (λ member. not (member == rank)) members
 -- whether the bit of a rank is 1
 unfoldable pub has_bit : ℕ → ℕ → Bool
 has_bit bits rank = bit_at bits rank == 1
-
--- the ranks from one on whose bits are 1
-unfoldable pub ranks_from : ℕ → ℕ → List ℕ
-ranks_from bits rank = filter (has_bit bits) (range_with_len rank (32 - rank))
-
--- the place of a rank among ranks of which the first has some place
-unfoldable pub place_from : (rank place : ℕ) → List ℕ → Option ℕ
-place_from rank place ranks = position_from (λ member. member == rank) place ranks
 
 -- the ranks whose bits are 1
 unfoldable pub ranks_in : ℕ → List ℕ

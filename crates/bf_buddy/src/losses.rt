@@ -14,7 +14,7 @@ fn is_lost(homes: Members, filled: Members, live: Members, shift: u32, home: u32
 }
 
 /// The first home whose part is lost, with its buddy: a home in `filled` that is not live, and whose buddy among the
-/// homes is not live. Members of `filled` that are no homes don't count.
+/// homes is not live. Members of `filled` that are no homes don't count. `None` where no part is lost.
 #[tactic(auto, using(crate::proofs::LossLemmas::loss_steps))]
 pub fn first_lost(homes: Members, filled: Members, live: Members, shift: u32) -> Option<(u32, u32)>
     ensures { result ≡ first_lost_of homes filled live shift }

@@ -1,4 +1,4 @@
-ghost use Rattle.std.specs.Prelude.{◌≡◌, ℕ, ◌+◌, ◌<◌, ◌≤◌, ◌==◌, IsTrue, All, length, slice_get, slice_index};
+ghost use Rattle.std.specs.Prelude.{◌≡◌, ◌≢◌, ◌<◌, ◌≤◌, IsTrue, All, length, slice_get, slice_index};
 ghost use Rattle.std.specs.List.{range_with_len};
 ghost use Rattle.std.specs.List.Sorted.{IsStrictlyIncreasing};
 ghost use Rattle.bf_buddy.specs.Members.{is_member, place_in, without, has_bit, ranks_in};
@@ -143,7 +143,7 @@ impl Members {
         rank < 32 && has_bit(self.bits, rank)
     }
 
-    /// How many members there are.
+    /// How many members there are. They rise, and each is below 32.
     #[tactic(auto, using(crate::proofs::BitLemmas::rank_facts))]
     pub fn count(self) -> u32
         ensures count { result ≡ length self }
@@ -154,7 +154,7 @@ impl Members {
         count_bits(self.bits)
     }
 
-    /// The members but one.
+    /// The members but this rank. A rank that is no member changes nothing.
     #[tactic(auto, using(crate::proofs::BitLemmas::without_steps))]
     pub fn without(self, rank: u32) -> Self
         ensures { result ≡ without self rank }
@@ -208,23 +208,27 @@ impl Members {
         }
     }
 
-    /// The member that keeps a second copy of a member's part. A lone member is its own buddy.
-    #[tactic(auto, using(crate::proofs::BuddyLemmas::buddy_at))]
+    /// The member that keeps a second copy of a member's part. It stands `1 + shift mod (count - 1)` places on, round
+    /// the end; a lone member is its own buddy.
+    #[tactic(auto, using(crate::proofs::LawLemmas::buddy_facts))]
     pub fn buddy(self, rank: u32, shift: u32) -> u32
         requires { IsTrue (is_member self rank) }
         ensures buddy { result ≡ buddy_of self rank shift }
         ensures member { IsTrue (is_member self result) }
+        ensures another { 2 ≤ length self → result ≢ rank }
+        ensures back { predecessor_of self result shift ≡ rank }
     {
         let place = self.place_of_member(rank);
         self.member_at(place_of_buddy(self.count(), place, shift))
     }
 
     /// The member whose buddy a member is.
-    #[tactic(auto, using(crate::proofs::BuddyLemmas::predecessor_at))]
+    #[tactic(auto, using(crate::proofs::LawLemmas::predecessor_facts))]
     pub fn predecessor(self, rank: u32, shift: u32) -> u32
         requires { IsTrue (is_member self rank) }
         ensures predecessor { result ≡ predecessor_of self rank shift }
         ensures member { IsTrue (is_member self result) }
+        ensures back { buddy_of self result shift ≡ rank }
     {
         let place = self.place_of_member(rank);
         self.member_at(place_of_predecessor(self.count(), place, shift))

@@ -13,11 +13,13 @@ fn an_empty_home_is_not_lost(rt: HostRuntime) -> Result<(), Fail> {
 }
 
 #[test]
-fn the_first_of_three_is_lost(rt: HostRuntime) -> Result<(), Fail> {
+fn the_first_of_lost_homes_is_told(rt: HostRuntime) -> Result<(), Fail> {
     let homes = Members::all(3);
     let live = homes.without(0).without(1);
     assert_eq!(rt; first_lost(homes, homes, live, 0), Some((0, 1)));
     assert_eq!(rt; first_lost(homes, homes, live, 1), Some((1, 0)));
+    assert_eq!(rt; first_lost(homes, homes, Members::all(0), 0), Some((0, 1)));
+    assert_eq!(rt; first_lost(homes, homes, Members::all(0), 1), Some((0, 2)));
     Ok(())
 }
 
@@ -38,5 +40,22 @@ fn ranks_go_to_thirty_one(rt: HostRuntime) -> Result<(), Fail> {
     assert_eq!(rt; members.place(31), Some(31));
     assert_eq!(rt; members.without(30).place(31), Some(30));
     assert_eq!(rt; members.without(30).at(31), None);
+    Ok(())
+}
+
+// The members are 0, 2, 4 and 5.
+#[test]
+fn buddies_go_by_places(rt: HostRuntime) -> Result<(), Fail> {
+    let members = Members::all(6).without(1).without(3);
+    assert_eq!(rt; members.buddy(0, 0), 2);
+    assert_eq!(rt; members.buddy(0, 1), 4);
+    assert_eq!(rt; members.buddy(0, 3), 2);
+    assert_eq!(rt; members.buddy(5, 0), 0);
+    assert_eq!(rt; members.predecessor(0, 0), 5);
+    assert_eq!(rt; members.predecessor(0, 1), 4);
+    assert_eq!(rt; members.predecessor(2, 0), 0);
+    assert_eq!(rt; members.place(3), None);
+    assert_eq!(rt; members.without(3).count(), 4);
+    assert_eq!(rt; members.without(40).count(), 4);
     Ok(())
 }

@@ -1,5 +1,6 @@
 use Rattle.std.proofs.Common.{◌≡◌, ◌+◌, ◌≤◌, length}
-use Rattle.bf_buddy.specs.Members.{ranks_from, ranks_in}
+use Rattle.bf_buddy.specs.Members.{ranks_in}
+use Rattle.bf_buddy.proofs.BitLemmas.{ranks_from}
 use Rattle.bf_buddy.proofs.members.count_bits.Given as goal
 
 abbrev pub invariant-loop-rank : goal.invariant-loop-rank

@@ -1,5 +1,6 @@
 use Rattle.std.proofs.Common.{◌≡◌, ◌≤◌}
-use Rattle.bf_buddy.specs.Members.{ranks_from, ranks_in, place_from, place_in}
+use Rattle.bf_buddy.specs.Members.{ranks_in, place_in}
+use Rattle.bf_buddy.proofs.BitLemmas.{ranks_from, place_from}
 use Rattle.bf_buddy.proofs.members.place_of_bit.Given as goal
 
 abbrev pub invariant-loop-member : goal.invariant-loop-member
