@@ -1,0 +1,4 @@
+pub mod LockstepLemmas
+pub mod RestoreLemmas
+pub mod SeatLemmas
+pub mod ReadLemmas
