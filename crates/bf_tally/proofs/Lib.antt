@@ -1,0 +1,3 @@
+pub mod PeerSteps
+pub mod OpeningSteps
+pub mod PlaceSteps

@@ -1,0 +1,109 @@
+ghost use Rattle.std.specs.Prelude.{◌≡◌, ◌≤◌};
+ghost use Rattle.bf_tally.specs.Deaths.{death_of};
+
+/// A rank's death after so many events.
+#[derive(Clone, Copy)]
+pub struct Death {
+    pub rank: u32,
+    pub count: u32,
+}
+
+/// A run's case.
+#[derive(Drop)]
+pub struct TallySetup {
+    ranks: u32,
+    items: u32,
+    steps: u32,
+    interval: u32,
+    shift: u32,
+    deaths: Vec<Death>,
+    pub ghost some_rank: { 1 ≤ ranks },
+    pub ghost ranks_fit: { ranks ≤ 32 },
+    pub ghost items_fit: { items ≤ ranks },
+    pub ghost steps_fit: { steps ≤ 128 },
+    pub ghost shift_fits: { shift ≤ 1000 },
+    pub ghost some_interval: { 1 ≤ interval },
+    pub ghost interval_fits: { interval ≤ 128 },
+}
+
+impl TallySetup {
+    /// A case, with the deaths that are to happen.
+    pub fn new(
+        ranks: u32,
+        items: u32,
+        steps: u32,
+        interval: u32,
+        shift: u32,
+        deaths: Vec<Death>,
+    ) -> Self
+        requires some_rank { 1 ≤ ranks }
+        requires ranks_fit { ranks ≤ 32 }
+        requires items_fit { items ≤ ranks }
+        requires steps_fit { steps ≤ 128 }
+        requires shift_fits { shift ≤ 1000 }
+        requires some_interval { 1 ≤ interval }
+        requires interval_fits { interval ≤ 128 }
+        ensures ranks { result.ranks ≡ ranks }
+        ensures items { result.items ≡ items }
+        ensures steps { result.steps ≡ steps }
+        ensures interval { result.interval ≡ interval }
+        ensures shift { result.shift ≡ shift }
+        ensures deaths { result.deaths ≡ deaths }
+    {
+        TallySetup {
+            ranks,
+            items,
+            steps,
+            interval,
+            shift,
+            deaths,
+        }
+    }
+
+    /// How many ranks there are: 1 to 32.
+    pub fn ranks(&self) -> u32
+        ensures value { result ≡ self.now.ranks }
+        ensures within { result ≤ 32 }
+    {
+        self.ranks
+    }
+
+    /// How many items there are, one at each of the first ranks.
+    pub fn items(&self) -> u32
+        ensures value { result ≡ self.now.items }
+        ensures within { self.now.items ≤ self.now.ranks }
+    {
+        self.items
+    }
+
+    /// The time at which the run ends.
+    pub fn steps(&self) -> u32
+        ensures { result ≡ self.now.steps }
+    {
+        self.steps
+    }
+
+    /// How much time lies between two snapshots.
+    pub fn interval(&self) -> u32
+        ensures { result ≡ self.now.interval }
+    {
+        self.interval
+    }
+
+    /// The shift in the choice of buddies.
+    pub fn shift(&self) -> u32
+        ensures { result ≡ self.now.shift }
+    {
+        self.shift
+    }
+
+    /// After how many events a rank dies, if it is to die.
+    pub fn death(&self, rank: u32) -> Option<u32>
+        ensures { result ≡ death_of self.now.deaths.items rank }
+    {
+        self.deaths
+            .iter()
+            .find(|death| death.rank == rank)
+            .map(|death| death.count)
+    }
+}
