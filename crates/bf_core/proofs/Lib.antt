@@ -1,0 +1,13 @@
+pub mod ListLemmas
+pub mod StageLemmas
+pub mod SoundLemmas
+pub mod LawLemmas
+pub mod MoveLemmas
+pub mod RollLemmas
+pub mod StateLemmas
+pub mod LegalLemmas
+pub mod TestLemmas
+pub mod NextLemmas
+pub mod RoomLemmas
+pub mod ArrivalLemmas
+pub mod EndLemmas

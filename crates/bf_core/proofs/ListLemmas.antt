@@ -1,0 +1,62 @@
+-- Filters, and lists in which some element passes a test.
+use Rattle.std.proofs.Common.{◌≡◌, ℕ, zero, suc, ◌+◌, ◌<◌, ◌≤◌, Bool, true, false, cond, ◌&&◌, ◌||◌, List, [], ◌∷◌, filter, length, arith, refl}
+use Rattle.std.specs.List.{range_with_len, list_any, list_all}
+use Rattle.std.proofs.Math.ListN.{get_or}
+
+pub filter_same : {X : Type 0} (p q : X → Bool) (xs : List X) → ((x : X) → p x ≡ q x) → filter p xs ≡ filter q xs
+filter_same p q [] same = refl
+filter_same p q (x ∷ xs) same = rw (same x, filter_same p q xs same) refl
+
+pub filter_twice : {X : Type 0} (p q : X → Bool) (xs : List X) → filter p (filter q xs) ≡ filter (λ x. q x && p x) xs
+filter_twice p q [] = refl
+filter_twice p q (x ∷ xs) = at_first (filter_twice p q xs) (q x) refl
+  where
+    at_first : filter p (filter q xs) ≡ filter (λ x. q x && p x) xs → (b : Bool) → q x ≡ b
+        → filter p (cond b (x ∷ filter q xs) (filter q xs)) ≡ cond (b && p x) (x ∷ filter (λ x. q x && p x) xs) (filter (λ x. q x && p x) xs)
+    at_first rest true passes = rw rest refl
+    at_first rest false fails = rest
+
+pub filter_range : (p : ℕ → Bool) (k n : ℕ) → ((r : ℕ) → k ≤ r → r < k + n → p r ≡ true) → filter p (range_with_len k n) ≡ range_with_len k n
+filter_range p k zero passes = refl
+filter_range p k (suc n) passes =
+    let here : p k ≡ true = passes k (omega arith) (omega arith) in
+    let later : filter p (range_with_len (k + 1) n) ≡ range_with_len (k + 1) n = filter_range p (k + 1) n (λ r from below. passes r (omega arith) (omega arith)) in
+    rw (here, later) refl
+
+-- an element that passes a test, where some does
+pub found : {X : Type 0} (test : X → Bool) (xs : List X) (d : X) → list_any test xs ≡ true → (i : ℕ) × ((i < length xs) × (test (get_or xs i d) ≡ true))
+found test [] d some = absurd (cc)
+found {X = X} test (x ∷ xs) d some = at_first (λ later. found test xs d later) (test x) refl some
+  where
+    at_first : (list_any test xs ≡ true → (i : ℕ) × ((i < length xs) × (test (get_or xs i d) ≡ true))) → (b : Bool) → test x ≡ b → (b || list_any test xs) ≡ true
+        → (i : ℕ) × ((i < length (x ∷ xs)) × (test (get_or (x ∷ xs) i d) ≡ true))
+    at_first rest true passes _ = (0, (omega arith, passes))
+    at_first rest false fails later = let there = rest later in (suc there.0, (omega (arith, there.1.0), there.1.1))
+
+-- where no element passes, none does at any place
+pub none_at : {X : Type 0} (test : X → Bool) (xs : List X) (i : ℕ) (d : X) → test d ≡ false → list_any test xs ≡ false → test (get_or xs i d) ≡ false
+none_at test [] i d default none = default
+none_at test (x ∷ xs) zero d default none = first_fails (test x) (list_any test xs) none
+  where
+    first_fails : (a b : Bool) → (a || b) ≡ false → a ≡ false
+    first_fails true b fails = fails
+    first_fails false b fails = refl
+none_at test (x ∷ xs) (suc i) d default none = none_at test xs i d default (rest_fails (test x) (list_any test xs) none)
+  where
+    rest_fails : (a b : Bool) → (a || b) ≡ false → b ≡ false
+    rest_fails true b fails = absurd (cc)
+    rest_fails false b fails = fails
+
+-- where all elements pass, each does at any place
+pub all_at : {X : Type 0} (test : X → Bool) (xs : List X) (i : ℕ) (d : X) → test d ≡ true → list_all test xs ≡ true → test (get_or xs i d) ≡ true
+all_at test [] i d default all = default
+all_at test (x ∷ xs) zero d default all = first_passes (test x) (list_all test xs) all
+  where
+    first_passes : (a b : Bool) → (a && b) ≡ true → a ≡ true
+    first_passes true b passes = refl
+    first_passes false b passes = passes
+all_at test (x ∷ xs) (suc i) d default all = all_at test xs i d default (rest_passes (test x) (list_all test xs) all)
+  where
+    rest_passes : (a b : Bool) → (a && b) ≡ true → b ≡ true
+    rest_passes true b passes = passes
+    rest_passes false b passes = absurd (cc)

@@ -1,0 +1,10 @@
+pub mod Stages
+pub mod Places
+pub mod Rolls
+pub mod States
+pub mod Views
+pub mod Legal
+pub mod Next
+pub mod Journals
+pub mod Orders
+pub mod Laws
