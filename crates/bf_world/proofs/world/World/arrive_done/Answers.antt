@@ -1,0 +1,44 @@
+use Rattle.std.proofs.Common.{◌≡◌, true, rules}
+use Rattle.bf_core.specs.declared.event.Event.TheVariants.{Arrive}
+use Rattle.bf_core.specs.declared.event.How.TheVariants.{Done}
+use Rattle.bf_core.specs.States.{is_active}
+use Rattle.bf_world.specs.declared.answers.Arrival.TheVariants as arrivals
+use Rattle.bf_world.specs.Worlds.{ArrivesAs, core_after}
+use Rattle.bf_world.proofs.WorldLemmas.{legal_somewhere, events_counted, queues_counted, where_ok, room_after, noted_after}
+use Rattle.bf_world.proofs.CallLemmas.{of_fields, rank_later, dones_legal, active_within, world_done}
+use Rattle.bf_world.proofs.world.World.arrive_done.Goals as goal
+
+pub step-requires-clause-legal : goal.step-requires-clause-legal
+step-requires-clause-legal g c =
+    let laws = g.met.P.RankProgram.lawful c.self.inside.setup in
+    let active = of_fields (λ s j w p. is_active (core_after g.P.RankProgram.meanings s j) c.args.rank ≡ true) _ _ _ _ _ c.self.view_is c.requires.active in
+    let its = of_fields (λ s j w p. ArrivesAs g.P.RankProgram.meanings s j c.args.rank (arrivals.Done c.args.filled c.args.parcel)) _ _ _ _ _ c.self.view_is c.requires.its in
+    legal_somewhere _ _ _ laws.limits laws.goods laws.stores laws.peers _ _ _ _ _ c.self.invariant _
+    (dones_legal _ _ _ laws.limits laws.goods laws.stores laws.peers _ _ _ _ _ c.self.invariant c.args.rank active its.0)
+
+pub step-requires-clause-events : goal.step-requires-clause-events
+step-requires-clause-events g c =
+    let laws = g.met.P.RankProgram.lawful c.self.inside.setup in
+    events_counted _ _ _ laws.limits laws.goods laws.stores laws.peers _ _ _ _ _ c.self.invariant _ c.args.rank c.reserve.ensures.events
+
+pub step-requires-clause-queues : goal.step-requires-clause-queues
+step-requires-clause-queues g c = λ from to.
+    let laws = g.met.P.RankProgram.lawful c.self.inside.setup in
+    queues_counted _ _ _ laws.limits laws.goods laws.stores laws.peers _ _ _ _ _ c.self.invariant _ from to c.reserve.ensures.events
+
+pub settle-requires : goal.settle-requires
+settle-requires g c =
+    let laws = g.met.P.RankProgram.lawful c.self.inside.setup in
+    let active = of_fields (λ s j w p. is_active (core_after g.P.RankProgram.meanings s j) c.args.rank ≡ true) _ _ _ _ _ c.self.view_is c.requires.active in
+    rank_later c.self.inside.core c.step.new.core (Arrive c.args.rank Done) c.args.filled c.args.rank c.step.ensures.core (active_within _ _ _ laws.limits laws.goods laws.stores laws.peers _ _ _ _ _ c.self.invariant c.args.rank active)
+
+pub invariant_of-self-2 : goal.invariant_of-self-2
+invariant_of-self-2 g c =
+    let laws = g.met.P.RankProgram.lawful c.self.inside.setup in
+    let active = of_fields (λ s j w p. is_active (core_after g.P.RankProgram.meanings s j) c.args.rank ≡ true) _ _ _ _ _ c.self.view_is c.requires.active in
+    let its = of_fields (λ s j w p. ArrivesAs g.P.RankProgram.meanings s j c.args.rank (arrivals.Done c.args.filled c.args.parcel)) _ _ _ _ _ c.self.view_is c.requires.its in
+    world_done _ _ _ laws.limits laws.goods laws.stores laws.peers _ _ _ _ _ c.self.invariant c.args.rank
+    c.step.new.core c.settle.new.queues c.step.new.journal _ c.settle.new.restores c.settle.ensures.queues c.settle.ensures.restores
+    c.args.filled c.args.parcel _ active its (noted_after _ _ _ _ c.step.ensures.events c.reserve.ensures.events) c.step.ensures.core
+    (search rules) c.settle.ensures.parcels
+    (room_after _ _ _ _ _ _ c.room_for-more.ensures (where_ok c.reserve.result (search rules) c.reserve.ensures.room) c.step.ensures.room c.self.invariant.queues.ranks)

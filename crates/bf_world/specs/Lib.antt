@@ -1,0 +1,7 @@
+pub mod Journals
+pub mod Queues
+pub mod Course
+pub mod Runs
+pub mod Messages
+pub mod Worlds
+pub mod Settled
