@@ -1,0 +1,158 @@
+-- What a rank's account gives for its arrivals, its leaves and its waiting.
+use Rattle.std.proofs.Common.{◌≡◌, ℕ, Bool, true, false, cond, ◌&&◌, not, List, [], ◌∷◌, length, nat_lt, refl, sym, ◌∙◌, ap}
+use Rattle.std.specs.Prelude.{Option, Some, None, slice_get, if◌then◌else◌}
+use Rattle.std.proofs.lemmas.Bool.{eq-eqb, ltb-false}
+use Rattle.std.proofs.lemmas.Option.{slice_get_past}
+use Rattle.bf_program.specs.declared.epoch.Epoch.{Epoch}
+use Rattle.bf_program.specs.Meanings.{Meanings}
+use Rattle.bf_program.specs.Lockstep.{local_of, after_sends, after_receives, lockstep}
+use Rattle.bf_program.specs.Laws.{KeepsReads}
+use Rattle.bf_program.proofs.ReadLemmas.{reads_sends, reads_receives, reads_lockstep}
+use Rattle.bf_core.specs.declared.event.Event.{Event}
+use Rattle.bf_core.specs.declared.event.Event.TheVariants.{Send, Recv, Arrive, Leave, Die}
+use Rattle.bf_core.specs.declared.event.How.TheVariants.{Done, Broken, Memory}
+use Rattle.bf_core.specs.declared.place.Place.{Place}
+use Rattle.bf_core.specs.declared.place.Place.TheVariants.{Rounds, Past}
+use Rattle.bf_core.specs.declared.standing.Stage.{Stage}
+use Rattle.bf_core.specs.declared.standing.Stage.TheVariants.{Running, Arrived, Leaving, Ended, Dead, Gone}
+use Rattle.bf_core.specs.Stages.{is_running, is_arrived, is_leaving}
+use Rattle.bf_core.specs.Places.{is_just, next_send, next_receive, is_past}
+use Rattle.bf_core.specs.States.{State, stage, queue, is_active, is_due, has_dead_member, is_short_of_memory}
+use Rattle.bf_core.specs.Legal.{is_legal, is_empty_from, waits, actor, IsOffered}
+use Rattle.bf_world.specs.Runs.{Run, place, will_be_filled, parcel_of, parcel_with}
+use Rattle.bf_rank.specs.Ranks.{Sight, sight, IsLocalAt, IsSaved, HasArrived}
+
+module _ {S L M T R : Type 0} (m : Meanings S L M T R) (good : S → Epoch → ℕ → List L → Type 0) (setup : S) where
+  -- the last local tells whether the part of the new snapshot is filled, and gives the parcel
+  pub done_filled : (run : Run L T) (rank : ℕ) (local : L) → IsLocalAt m good setup (sight run rank) rank Past local → will_be_filled m setup run rank ≡ m.filled local
+  unfolding will_be_filled
+  done_filled run rank local here = ap filled_of here.its ∙ ap m.filled (sym here.here)
+    where
+      filled_of : Option L → Bool
+      filled_of (Some l) = m.filled l
+      filled_of None = false
+
+  pub done_parcel : (run : Run L T) (rank : ℕ) (local : L) → IsLocalAt m good setup (sight run rank) rank Past local → parcel_of m setup run rank ≡ (rank, (m.parcel local).1) ∷ []
+  unfolding parcel_of
+  done_parcel run rank local here = ap (λ o. parcel_with m setup rank o) here.its ∙ ap (λ l. (rank, (m.parcel l).1) ∷ []) (sym here.here)
+
+module _ {S L M T R : Type 0} (m : Meanings S L M T R) (good : S → Epoch → ℕ → List L → Type 0) (setup : S) (saves : KeepsReads m setup) (seen : Sight L) (rank : ℕ) where
+  -- wherever a rank is in its rounds, it has the agreed snapshot
+  pub saved_at : (at : Place) (local : L) → IsLocalAt m good setup seen rank at local → IsSaved m good setup seen rank local
+  saved_at Past local here =
+      let from : (first : L) × ((local_of seen.epoch.members seen.start rank ≡ Some first) × (m.reads here.first ≡ m.reads first)) =
+      reads_lockstep m setup saves seen.epoch seen.start rank (m.rounds setup seen.epoch) here.first here.its in
+      record { first = from.0; its = from.1.0; same = ap m.reads here.here ∙ from.1.1 }
+  saved_at (Rounds round sent received peers) local here =
+      let from : (first : L) × ((local_of seen.epoch.members seen.start rank ≡ Some first) × (m.reads here.first ≡ m.reads first)) =
+      reads_lockstep m setup saves seen.epoch seen.start rank round here.first here.its in
+      record { first = from.0; its = from.1.0; same = ap m.reads here.here ∙ by_sent (nat_lt sent (length peers)) ∙ from.1.1 }
+    where
+      by_sent : (b : Bool) → m.reads (cond b (after_sends m setup seen.epoch round here.first sent)
+          (after_receives m setup seen.epoch round (lockstep m setup seen.epoch seen.start round) rank here.first received)) ≡ m.reads here.first
+      by_sent true = reads_sends m setup saves seen.epoch round here.first sent
+      by_sent false = reads_receives m setup saves seen.epoch round (lockstep m setup seen.epoch seen.start round) rank here.first received
+
+  -- who arrives broken has the agreed snapshot
+  pub arrives_broken : (at : Place) (local : L) → IsLocalAt m good setup seen rank at local → HasArrived m good setup seen rank Broken local
+  arrives_broken at local here = record { saved = saved_at at local here; last = λ same. absurd (cc) }
+
+  -- who arrives done before the last epoch has its last local too
+  pub arrives_done : (local : L) → IsLocalAt m good setup seen rank Past local → HasArrived m good setup seen rank Done local
+  arrives_done local here = record { saved = saved_at Past local here; last = λ _ _. here.its ∙ ap Some (sym here.here) }
+
+  -- and who has given its parcel in the last epoch the agreed snapshot
+  pub arrives_with_parcel : (local : L) → IsLocalAt m good setup seen rank Past local → seen.epoch.target ≡ seen.steps → HasArrived m good setup seen rank Done (m.parcel local).0
+  arrives_with_parcel local here ends =
+      let saved : IsSaved m good setup seen rank local = saved_at Past local here in
+      record {
+        saved = record { first = saved.first; its = saved.its; same = saves.parcel local ∙ saved.same };
+        last = λ _ goes. absurd (goes ends);
+      }
+
+first_of_two : (a b : Bool) → (a && b) ≡ true → a ≡ true
+first_of_two true b holds = refl
+first_of_two false b holds = holds
+
+second_of_two : (a b : Bool) → (a && b) ≡ true → b ≡ true
+second_of_two true b holds = holds
+second_of_two false b holds = absurd (cc)
+
+clash : (b : Bool) → b ≡ true → b ≡ false → ⊥
+clash true is_true is_false = absurd (cc)
+clash false is_true is_false = absurd (cc)
+
+-- the number that there may be
+lacks : (o : Option ℕ) (n : ℕ) → o ≡ None → is_just o n ≡ true → ⊥
+lacks o n none is_just_n = let e : false ≡ true = ap (λ x. is_just x n) (sym none) ∙ is_just_n in cc
+
+-- a rank whose next step is a receive has nothing to send
+all_sent : (place : Place) (peer : ℕ) → next_receive place ≡ Some peer → (next_send place ≡ None) × (is_past place ≡ false)
+all_sent Past peer next = absurd (cc)
+all_sent (Rounds round sent received peers) peer next = (by_sent (nat_lt sent (length peers)) refl next, refl)
+  where
+    by_sent : (b : Bool) → nat_lt sent (length peers) ≡ b → (if b then None else slice_get peers received) ≡ Some peer → slice_get peers sent ≡ None
+    by_sent true more none = absurd (cc)
+    by_sent false all found = slice_get_past peers sent (ltb-false sent (length peers) all)
+
+-- a rank that waits beside members who all live and have memory is offered nothing
+pub waiting_offers_nothing : (core : State) (rank peer : ℕ) (place : Place) → is_due core rank ≡ false → stage core rank ≡ Running → next_receive place ≡ Some peer
+    → queue core peer rank ≡ 0 → has_dead_member core ≡ false → is_short_of_memory core ≡ false → (event : Event) → IsOffered core rank place event → ⊥
+waiting_offers_nothing core rank peer place undue runs next empty alive fits (Send r to blocks sum) offered =
+    lacks (next_send place) to (all_sent place peer next).0 (second_of_two (is_active core r) _ offered.legal)
+waiting_offers_nothing core rank peer place undue runs next empty alive fits (Recv r p) offered =
+    clash _ (second_of_two (is_active core r && is_just (next_receive place) p) _ offered.legal)
+    (ap not (ap (λ q. waits core q place) offered.its ∙ ap (is_empty_from core rank) next ∙ eq-eqb (queue core peer rank) 0 empty))
+waiting_offers_nothing core rank peer place undue runs next empty alive fits (Arrive r Done) offered =
+    clash (is_past place) (second_of_two (is_active core r) _ offered.legal) (all_sent place peer next).1
+waiting_offers_nothing core rank peer place undue runs next empty alive fits (Arrive r Broken) offered =
+    clash (has_dead_member core) (second_of_two (is_active core r && waits core r place) _ offered.legal) alive
+waiting_offers_nothing core rank peer place undue runs next empty alive fits (Arrive r Memory) offered =
+    clash (is_short_of_memory core) (second_of_two (waits core rank place && not (has_dead_member core)) _ (offered.memory refl)) fits
+waiting_offers_nothing core rank peer place undue runs next empty alive fits (Leave r) offered =
+    clash (is_leaving (stage core r)) (first_of_two (is_leaving (stage core r)) _ offered.legal) (ap (λ q. is_leaving (stage core q)) offered.its ∙ ap is_leaving runs)
+waiting_offers_nothing core rank peer place undue runs next empty alive fits (Die r) offered =
+    clash (is_due core r) offered.legal (ap (is_due core) offered.its ∙ undue)
+
+-- a rank that does not do its rounds is not active
+inactive : (core : State) (rank : ℕ) → is_running (stage core rank) ≡ false → is_active core rank ≡ true → ⊥
+inactive core rank rests active = clash (is_running (stage core rank)) (first_of_two (is_running (stage core rank)) _ active) rests
+
+-- a rank that has arrived in an epoch that is not decided is offered nothing
+pub arrived_offers_nothing : (core : State) (rank : ℕ) (place : Place) → is_due core rank ≡ false → is_arrived (stage core rank) ≡ true
+    → (event : Event) → IsOffered core rank place event → ⊥
+arrived_offers_nothing core rank place undue arrived event offered = by_event event offered.its offered.legal
+  where
+    rests : is_running (stage core rank) ≡ false
+    rests = by_stage (stage core rank) arrived
+      where
+        by_stage : (s : Stage) → is_arrived s ≡ true → is_running s ≡ false
+        by_stage (Arrived how filled) _ = refl
+        by_stage Running still = absurd (cc)
+        by_stage Leaving still = absurd (cc)
+        by_stage Ended still = absurd (cc)
+        by_stage Dead still = absurd (cc)
+        by_stage Gone still = absurd (cc)
+
+    stays : is_leaving (stage core rank) ≡ false
+    stays = by_stage (stage core rank) arrived
+      where
+        by_stage : (s : Stage) → is_arrived s ≡ true → is_leaving s ≡ false
+        by_stage (Arrived how filled) _ = refl
+        by_stage Running still = absurd (cc)
+        by_stage Leaving still = absurd (cc)
+        by_stage Ended still = absurd (cc)
+        by_stage Dead still = absurd (cc)
+        by_stage Gone still = absurd (cc)
+
+    quiet : (r : ℕ) → r ≡ rank → is_active core r ≡ true → ⊥
+    quiet r same active = inactive core rank rests (ap (is_active core) (sym same) ∙ active)
+
+    by_event : (event : Event) → actor event ≡ rank → is_legal core event place ≡ true → ⊥
+    by_event (Send r to blocks sum) same legal = quiet r same (first_of_two (is_active core r) _ legal)
+    by_event (Recv r p) same legal = quiet r same (first_of_two (is_active core r) _ (first_of_two (is_active core r && is_just (next_receive place) p) _ legal))
+    by_event (Arrive r Done) same legal = quiet r same (first_of_two (is_active core r) _ legal)
+    by_event (Arrive r Broken) same legal = quiet r same (first_of_two (is_active core r) _ (first_of_two (is_active core r && waits core r place) _ legal))
+    by_event (Arrive r Memory) same legal = quiet r same legal
+    by_event (Leave r) same legal = clash (is_leaving (stage core r)) (first_of_two (is_leaving (stage core r)) _ legal) (ap (λ q. is_leaving (stage core q)) same ∙ stays)
+    by_event (Die r) same legal = clash (is_due core r) legal (ap (is_due core) same ∙ undue)

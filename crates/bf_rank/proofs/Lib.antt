@@ -1,0 +1,7 @@
+pub mod AgreeLemmas
+pub mod StepLemmas
+pub mod TurnLemmas
+pub mod ArriveLemmas
+pub mod PassLemmas
+pub mod AccountLemmas
+pub mod OpenLemmas
