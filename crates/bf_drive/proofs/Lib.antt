@@ -1,0 +1,4 @@
+pub mod TurnsLemmas
+pub mod StayLemmas
+pub mod TookLemmas
+pub mod LighterLemmas
