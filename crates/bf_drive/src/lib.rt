@@ -4,5 +4,6 @@
 #![tactic(auto)]
 
 mod driver;
+pub mod laws;
 
 pub use driver::drive;

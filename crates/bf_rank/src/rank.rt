@@ -495,6 +495,7 @@ impl<P: RankProgram> Rank<P> {
         ensures at { IsAt P.meanings P.good setup.now world.new.journal self.new }
         ensures turn { TookTurn P.meanings P.good setup.now world.old.journal world.new.journal self.old.rank result }
         ensures as_before { result ≡ Turn.NotYet → self.new ≡ self.old }
+        ensures ended { self.old.stand ≡ Stand.Ended → result ≡ Turn.Ended }
     {
         world.known();
         let rank = self.rank;

@@ -20,13 +20,13 @@ returns-then-due g c =
     (has_died _ _ _ _ laws _ legal _ (viewed c.args.self.now.rank c.args.self.now.local c.args.self.now.epoch stands.Ended) c.requires.at.within due refl
     (c.die.ensures.journal ∙ ap (λ r. c.args.world.now.journal ++ Die r ∷ []) its))
     c.stand_on.ensures.view c.stand_on.ensures.turn refl in
-    record { setup = c.die.ensures.setup; rank = made.its; at = made.at; turn = made.turn; as_before = λ waits. absurd (made.moves waits) }
+    record { setup = c.die.ensures.setup; rank = made.its; at = made.at; turn = made.turn; as_before = λ waits. absurd (made.moves waits); ended = λ _. c.stand_on.ensures.turn }
 
 pub returns-in-Moved : goal.returns-in-Moved
 returns-in-Moved g c =
     let made = turn_made _ _ _ _ _ c.self.inside.rank c.args.self.now.rank c.step-made.new.local c.step-made.new.epoch c.in-Moved.next c.stand_on-in-Moved.new.self c.stand_on-in-Moved.result
     c.in-Moved.ensures.stepped c.stand_on-in-Moved.ensures.view c.stand_on-in-Moved.ensures.turn (ap (λ v. v.rank) c.self.view_is) in
-    record { setup = c.step-made.ensures.setup; rank = made.its; at = made.at; turn = made.turn; as_before = λ waits. absurd (made.moves waits) }
+    record { setup = c.step-made.ensures.setup; rank = made.its; at = made.at; turn = made.turn; as_before = λ waits. absurd (made.moves waits); ended = λ ends. absurd (c.in_default.not-Ended (ap (λ v. v.stand) c.self.view_is ∙ ends)) }
 
 pub returns-in-Short : goal.returns-in-Short
 returns-in-Short g c =
@@ -38,4 +38,4 @@ returns-in-Short g c =
     let made = turn_made _ _ _ _ _ c.self.inside.rank c.args.self.now.rank None c.step-made.new.epoch stands.Arrived c.stand_on-in-Short.new.self c.stand_on-in-Short.result
     (has_failed _ _ _ _ laws _ legal _ (viewed c.self.inside.rank None c.step-made.new.epoch stands.Arrived) at.within c.in-Short.ensures.stepped.1 refl more)
     c.stand_on-in-Short.ensures.view c.stand_on-in-Short.ensures.turn (ap (λ v. v.rank) c.self.view_is) in
-    record { setup = c.arrive.ensures.setup ∙ c.step-made.ensures.setup; rank = made.its; at = made.at; turn = made.turn; as_before = λ waits. absurd (made.moves waits) }
+    record { setup = c.arrive.ensures.setup ∙ c.step-made.ensures.setup; rank = made.its; at = made.at; turn = made.turn; as_before = λ waits. absurd (made.moves waits); ended = λ ends. absurd (c.in_default.not-Ended (ap (λ v. v.stand) c.self.view_is ∙ ends)) }
