@@ -22,7 +22,7 @@ pub use local::{TallyLocal, TallySide};
 pub use message::TallyMessage;
 pub use opening::opened;
 pub use program::Tally;
-pub use setup::{Death, TallySetup};
+pub use setup::TallySetup;
 pub use stage::Stage;
 
 #[cfg(test)]

@@ -1,22 +1,15 @@
 ghost use Rattle.std.specs.Prelude.{◌≡◌, ◌≤◌};
 ghost use Rattle.bf_tally.specs.Deaths.{death_of};
 
-/// A rank's death after so many events.
-#[derive(Clone, Copy)]
-pub struct Death {
-    pub rank: u32,
-    pub count: u32,
-}
-
 /// A run's case.
-#[derive(Drop)]
+#[derive(Clone, Copy)]
 pub struct TallySetup {
     ranks: u32,
     items: u32,
     steps: u32,
     interval: u32,
     shift: u32,
-    deaths: Vec<Death>,
+    deaths: [Option<u32>; 32],
     pub ghost some_rank: { 1 ≤ ranks },
     pub ghost ranks_fit: { ranks ≤ 32 },
     pub ghost items_fit: { items ≤ ranks },
@@ -27,14 +20,14 @@ pub struct TallySetup {
 }
 
 impl TallySetup {
-    /// A case, with the deaths that are to happen.
+    /// A case, with the number of events after which each rank dies.
     pub fn new(
         ranks: u32,
         items: u32,
         steps: u32,
         interval: u32,
         shift: u32,
-        deaths: Vec<Death>,
+        deaths: [Option<u32>; 32],
     ) -> Self
         requires some_rank { 1 ≤ ranks }
         requires ranks_fit { ranks ≤ 32 }
@@ -99,11 +92,12 @@ impl TallySetup {
 
     /// After how many events a rank dies, if it is to die.
     pub fn death(&self, rank: u32) -> Option<u32>
-        ensures { result ≡ death_of self.now.deaths.items rank }
+        ensures { result ≡ death_of self.now.deaths rank }
     {
-        self.deaths
-            .iter()
-            .find(|death| death.rank == rank)
-            .map(|death| death.count)
+        if rank < 32 {
+            self.deaths[rank as usize]
+        } else {
+            None
+        }
     }
 }

@@ -1,9 +1,9 @@
 //! An epoch of three ranks, a restore of two, and what the peers are.
-ghost use Rattle.std.specs.Prelude.{◌≡◌, IfOk};
+ghost use Rattle.std.specs.Prelude.{◌≡◌};
 
 use crate::calls::{add_up, go_back, hear, snap, told};
 use crate::peers::peers_of;
-use crate::{Death, Items, Stage, Tally, TallyLocal, TallyMessage, TallySetup, TallySide, opened};
+use crate::{Items, Stage, Tally, TallyLocal, TallyMessage, TallySetup, TallySide, opened};
 use bf_buddy::Members;
 use bf_program::{Epoch, Measure, Memory, RankProgram};
 use std::alloc::Global;
@@ -11,12 +11,12 @@ use std::process::Abort;
 use std::test::Fail;
 
 // Three ranks with an item each, 1, 2 and 3; buddies stand one place on.
-fn setup(alloc: Global) -> Result<TallySetup, Memory>
-    ensures { IfOk result (λ s. s.ranks ≡ 3) }
+fn setup() -> TallySetup
+    ensures { result.ranks ≡ 3 }
 {
-    let mut deaths = Vec::new(alloc);
-    deaths.push(Death { rank: 1, count: 9 })?;
-    Ok(TallySetup::new(3, 3, 2, 1, 0, deaths))
+    let mut deaths = [None; 32];
+    deaths[1] = Some(9);
+    TallySetup::new(3, 3, 2, 1, 0, deaths)
 }
 
 #[derive(Drop)]
@@ -27,7 +27,7 @@ struct Three {
 }
 
 fn opened_three(alloc: Global) -> Result<Three, Memory> {
-    let setup = setup(alloc)?;
+    let setup = setup();
     Ok(Three {
         a: opened(alloc, &setup, 0)?,
         b: opened(alloc, &setup, 1)?,
@@ -213,8 +213,7 @@ fn the_opening_has_copies(rt: HostRuntime) -> Result<(), Fail> {
 
 #[test]
 fn the_last_of_an_odd_number_has_no_peer_among_pairs(rt: HostRuntime) -> Result<(), Fail> {
-    let alloc = rt.alloc();
-    let setup = setup(alloc)?;
+    let setup = setup();
     assert_eq!(rt; Tally::ranks(&setup), 3);
     assert_eq!(rt; Tally::snapshot(&setup), 1);
     assert_eq!(rt; Tally::target(&setup, 1), 2);
