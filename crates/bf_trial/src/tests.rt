@@ -141,3 +141,26 @@ fn deaths_of_both_holders_lose_a_part(rt: HostRuntime) -> Result<(), Fail> {
     assert_eq!(rt; world.restores(), 0);
     Ok(())
 }
+
+// The most ranks and steps, with an item a rank and a snapshot after each 16 steps.
+fn most() -> TallySetup
+    ensures { result.ranks ≡ 32 }
+{
+    TallySetup::new(32, 32, 128, 16, 0, [None; 32])
+}
+
+// In each step every rank sends to each of the 31 others and receives from it: 128 * 32 * 31 * 2 = 253,952 events.
+// Each step adds the sum of all values, which is 528 at first and 33 times that after it. So each value grows by
+// 528 * (33^128 - 1) / 32, which is 2,693,826,560 modulo 2^32.
+#[test]
+fn the_most_ranks_take_the_most_steps(rt: HostRuntime) -> Result<(), Fail> {
+    let world = run(rt.alloc(), most(), &[])?;
+    assert_eq!(rt; world.outcome(), Some(Outcome::Finished));
+    assert!(rt; world.journal().len() > 253_952);
+    assert_eq!(rt; world.parcels().len(), 32);
+    for rank in 0..32u32 {
+        let value = rank.wrapping_add(2_693_826_561);
+        assert!(rt; is_given(world.parcels(), rank, value));
+    }
+    Ok(())
+}
