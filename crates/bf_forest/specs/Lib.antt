@@ -2,3 +2,4 @@ pub mod Stages
 pub mod Gathered
 pub mod Meanings
 pub mod Goods
+pub mod StepLaws
