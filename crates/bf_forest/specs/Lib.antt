@@ -3,3 +3,4 @@ pub mod Gathered
 pub mod Meanings
 pub mod Goods
 pub mod StepLaws
+pub mod PlainRounds
