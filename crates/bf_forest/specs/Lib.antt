@@ -4,3 +4,4 @@ pub mod Meanings
 pub mod Goods
 pub mod StepLaws
 pub mod PlainRounds
+pub mod Hearing
