@@ -8,3 +8,5 @@ pub mod Hearing
 pub mod SeatLaws
 pub mod StageLaws
 pub mod NextLaws
+pub mod Leaves
+pub mod LeafLaws
