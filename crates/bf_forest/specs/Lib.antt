@@ -1,0 +1,4 @@
+pub mod Stages
+pub mod Gathered
+pub mod Meanings
+pub mod Goods

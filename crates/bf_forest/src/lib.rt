@@ -1,0 +1,11 @@
+//! The rank program of the block forest: its ranks own the blocks, tell each other their cells, step them, and make a
+//! snapshot at the end of an epoch, which each keeps for itself and for the member whose buddy it is.
+#![tactic(auto)]
+
+mod local;
+mod message;
+mod stage;
+
+pub use local::ForestLocal;
+pub use message::ForestMessage;
+pub use stage::Stage;
