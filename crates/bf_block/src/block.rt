@@ -74,8 +74,30 @@ impl Block {
         }
     }
 
-    /// The same leaf one step later, where the shell holds the samples around it. Where there is no memory for its new
-    /// cells, the block comes back as it was.
+    /// The same leaf one step later, where the shell holds the samples around it. Blocks beside it may still need this one.
+    pub fn advanced(&self, alloc: Global, shell: &Shell) -> Result<Block, Memory>
+        requires regridded { IsTrue self.now.point.regridded }
+        requires time { self.now.point.time < self.now.case.steps }
+        requires side { shell.now.side ≡ self.now.cells.side }
+        requires samples { HoldSamples self.now.case.roots (map_at self.now.case self.now.point) self.now.id self.now.cells shell.now }
+        ensures { IfOk result (λ block. block ≡ stepped_block self.now shell.now) }
+    {
+        let mut cells = Cells::filled(alloc, self.cells.side(), 0)?;
+        self.cells.kernel(shell, &mut cells);
+        let point = Point {
+            time: self.point.time + 1,
+            regridded: false,
+        };
+        Ok(Block {
+            setup: self.setup.share()?,
+            point,
+            id: self.id,
+            cells,
+        })
+    }
+
+    /// The same leaf one step later, in place of this one. Where there is no memory for its new cells, the block comes
+    /// back as it was.
     pub fn stepped(self, alloc: Global, shell: &Shell) -> Result<Block, Kept<Block>>
         requires regridded { IsTrue self.point.regridded }
         requires time { self.point.time < self.case.steps }
@@ -84,26 +106,10 @@ impl Block {
         ensures block { IfOk result (λ block. block ≡ stepped_block self shell.now) }
         ensures kept { IfErr result (λ kept. kept.value ≡ self) }
     {
-        let Ok(mut cells) = Cells::filled(alloc, self.cells.side(), 0) else {
-            return Err(Kept { value: self });
-        };
-        self.cells.kernel(shell, &mut cells);
-        let Block {
-            setup,
-            point,
-            id,
-            ..
-        } = self;
-        let point = Point {
-            time: point.time + 1,
-            regridded: false,
-        };
-        Ok(Block {
-            setup,
-            point,
-            id,
-            cells,
-        })
+        match self.advanced(alloc, shell) {
+            Ok(block) => Ok(block),
+            Err(_) => Err(Kept { value: self }),
+        }
     }
 
     /// An equal block, for a message or a snapshot.
