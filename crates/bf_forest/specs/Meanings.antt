@@ -2,6 +2,7 @@
 use Rattle.std.specs.Prelude.{ℕ, ◌+◌, ◌*◌, ◌%◌, ◌^◌, ◌==◌, nat_lt, Bool, ◌&&◌, not, List, [], ◌++◌, length, sum, map, filter, if◌then◌else◌, Option, Some, None}
 use Rattle.std.specs.List.{range_with_len, sum_by}
 use Rattle.std.specs.Map.{lookup}
+use Rattle.bf_buddy.specs.Members.{without}
 use Rattle.bf_buddy.specs.Buddy.{predecessor_of}
 use Rattle.bf_program.specs.declared.epoch.Epoch.{Epoch}
 use Rattle.bf_program.specs.declared.measure.Measure.{Measure}
@@ -40,10 +41,6 @@ forest_look = record {
 -- after how many events a rank dies, if it is to die
 abbrev pub death_of : List (ℕ × ℕ) → (rank : ℕ) → Option ℕ
 death_of deaths rank = lookup (λ dying. dying == rank) deaths
-
--- all members but the rank
-unfoldable pub others_of : (members : List ℕ) → (rank : ℕ) → List ℕ
-others_of members rank = filter (λ other. not (other == rank)) members
 
 -- the message to a peer: copies of all blocks, or the part of the new snapshot for the buddy
 unfoldable pub told : Stage → (members : List ℕ) → (shift : ℕ) → ForestLocal → (to : ℕ) → ForestMessage
@@ -119,7 +116,7 @@ forest = record {
   interval = λ setup. (case_of setup).snapshot;
   death = λ setup rank. death_of (case_of setup).dies rank;
   rounds = λ setup epoch. rounds_of epoch;
-  peers = λ setup local epoch round. others_of epoch.members local.rank;
+  peers = λ setup local epoch round. without epoch.members local.rank;
   out = λ setup local epoch round to. (local, told (stage_of epoch round) epoch.members (case_of setup).shift local to);
   take = λ setup local epoch round peer msg. heard_of local msg;
   finish = λ setup local epoch round. ended (stage_of epoch round) (case_of setup) epoch local;

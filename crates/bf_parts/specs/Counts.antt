@@ -45,9 +45,17 @@ held_mapped key f (item ∷ items) k same = held_cons key (f item) (map f items)
     ∙ sym (held_cons key item items k)
 
 -- sums over numbers
-pub sums_same : (f g : ℕ → ℕ) (xs : List ℕ) → ((x : ℕ) → f x ≡ g x) → sum_by f xs ≡ sum_by g xs
-sums_same f g [] same = refl
-sums_same f g (x ∷ xs) same = sum_by-cons f x xs ∙ ap (λ n. n + sum_by f xs) (same x) ∙ ap (λ n. g x + n) (sums_same f g xs same) ∙ sym (sum_by-cons g x xs)
+pub sums_same : (f g : ℕ → ℕ) (first count : ℕ) → ((k : ℕ) → k < first + count → f k ≡ g k) → sum_by f (range_with_len first count) ≡ sum_by g (range_with_len first count)
+sums_same f g first zero same = refl
+sums_same f g first (suc count) same =
+    sum_by-cons f first (range_with_len (first + 1) count)
+    ∙ ap (λ n. n + sum_by f (range_with_len (first + 1) count)) (same first (omega arith))
+    ∙ ap (λ n. g first + n) (sums_same f g (first + 1) count (λ k below. same k (omega arith)))
+    ∙ sym (sum_by-cons g first (range_with_len (first + 1) count))
+
+pub sum_none : (xs : List ℕ) → sum_by (λ x. 0) xs ≡ 0
+sum_none [] = refl
+sum_none (x ∷ xs) = sum_by-cons (λ x. 0) x xs ∙ ap (λ n. 0 + n) (sum_none xs)
 
 pub sum_of_both : (f g h : ℕ → ℕ) (xs : List ℕ) → ((x : ℕ) → f x ≡ g x + h x) → sum_by f xs ≡ sum_by g xs + sum_by h xs
 sum_of_both f g h [] both = refl

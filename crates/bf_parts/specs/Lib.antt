@@ -4,3 +4,11 @@ pub mod Shares
 pub mod Bools
 pub mod Seats
 pub mod Counts
+pub mod SideLaws
+pub mod FillLaws
+pub mod SavedLaws
+pub mod KeyLaws
+pub mod Openings
+pub mod ShareLaws
+pub mod Programs
+pub mod ProgramLaws

@@ -4,7 +4,9 @@ use Rattle.std.specs.Prelude.{◌==◌, ◌||◌, ◌&&◌, map, filter, Some, A
 use Rattle.std.specs.List.{AllZip, zip, range_with_len}
 use Rattle.std.proofs.lemmas.Bool.{eqb-true, eq-eqb}
 use Rattle.std.proofs.lemmas.Bool.Decides.{nat_tests}
+use Rattle.std.specs.List.Sorted.{IsStrictlyIncreasing}
 use Rattle.std.proofs.lemmas.List.Elements.{All-nil, All-cons}
+use Rattle.std.proofs.lemmas.List.FromFn.{length-range_with_len, get_or-range_with_len}
 use Rattle.bf_buddy.specs.Members.{is_member}
 use Rattle.bf_program.specs.Lockstep.{local_of}
 use Rattle.bf_parts.specs.Bools.{and_false, or_later}
@@ -137,3 +139,14 @@ seats_length R [] [] each = refl
 seats_length R [] (x ∷ locals) each = absurd each
 seats_length R (member ∷ members) [] each = absurd each
 seats_length R (member ∷ members) (x ∷ locals) each = ap suc (seats_length R members locals each.1)
+
+-- ranges
+pub range_rises : (count : ℕ) → IsStrictlyIncreasing (range_with_len 0 count)
+range_rises count = λ k below.
+    let long : length (range_with_len 0 count) ≡ count = length-range_with_len 0 count in
+    let one = get_or-range_with_len 0 count k 0 (omega arith) in
+    let two = get_or-range_with_len 0 count (k + 1) 0 (omega arith) in
+    rw (one, two) (omega arith)
+
+pub range_has : (ranks rank : ℕ) → rank < ranks → is_member (range_with_len 0 ranks) rank ≡ true
+range_has ranks rank below = member_range 0 ranks rank (omega arith) (omega arith)
