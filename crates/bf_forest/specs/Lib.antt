@@ -5,3 +5,4 @@ pub mod Goods
 pub mod StepLaws
 pub mod PlainRounds
 pub mod Hearing
+pub mod Places

@@ -4,6 +4,7 @@
 
 mod blocks;
 mod calls;
+mod known;
 mod local;
 mod message;
 mod stage;
