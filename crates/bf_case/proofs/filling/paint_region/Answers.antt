@@ -1,8 +1,8 @@
 use Rattle.std.proofs.Common.{refl, sym, ap, subst, ◌∙◌, ◌+◌, arith}
 use Rattle.bf_cells.specs.Grid.{Grid, IsGrid}
-use Rattle.bf_cli.specs.Filling.{with_box}
-use Rattle.bf_cli.proofs.BoxLemmas.{side-with_box, IsGrid-with_box, box_of_no_layers, box_and_layer}
-use Rattle.bf_cli.proofs.filling.paint_region.Goals as goal
+use Rattle.bf_case.specs.Filling.{with_box}
+use Rattle.bf_case.proofs.BoxLemmas.{side-with_box, IsGrid-with_box, box_of_no_layers, box_and_layer}
+use Rattle.bf_case.proofs.filling.paint_region.Goals as goal
 
 pub loop-z-init : goal.loop-z-init
 loop-z-init c =

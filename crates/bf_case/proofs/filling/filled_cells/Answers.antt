@@ -1,7 +1,7 @@
 use Rattle.std.proofs.Common.{◌∙◌}
-use Rattle.bf_cli.specs.Filling.{voxel_at}
-use Rattle.bf_cli.proofs.BoxLemmas.{filled_none, filled_next}
-use Rattle.bf_cli.proofs.filling.filled_cells.Goals as goal
+use Rattle.bf_case.specs.Filling.{voxel_at}
+use Rattle.bf_case.proofs.BoxLemmas.{filled_none, filled_next}
+use Rattle.bf_case.proofs.filling.filled_cells.Goals as goal
 
 pub loop-fill-init : goal.loop-fill-init
 loop-fill-init c = c.in_ok-cells.ensures.cells ∙ filled_none c.args.side (voxel_at c.args.first)

@@ -1,16 +1,15 @@
-//! The map at the beginning: the roots, filled.
+//! A root at the beginning: its cells, filled.
 ghost use Rattle.std.specs.Prelude.{◌≡◌, ℕ, ◌+◌, ◌-◌, ◌*◌, ◌/◌, ◌%◌, ◌^◌, ◌<◌, ◌≤◌, slice_index, All, IfOk};
 ghost use Rattle.bf_id.specs.Shape.{IsShape, root_count};
 ghost use Rattle.bf_cells.specs.Grid.{filled_with, IsGrid};
 ghost use Rattle.bf_case.specs.Case.{IsFill, IsValid};
-ghost use Rattle.bf_case.specs.Model.{first_cell, initial, is_between};
-ghost use Rattle.bf_cli.specs.Filling.{is_within, with_box, with_fill, filled_grid, voxel_at, HasRoom};
+ghost use Rattle.bf_case.specs.Model.{filled_root, first_cell, is_between};
+ghost use Rattle.bf_case.specs.Filling.{is_within, with_box, with_fill, filled_grid, voxel_at, HasRoom};
 
-use bf_case::{Case, Fill};
+use crate::case::{Case, Fill};
 use bf_cells::Cells;
-use bf_edge::Memory;
-use bf_id::{Id, Shape};
-use std::alloc::Global;
+use bf_id::Shape;
+use std::alloc::{AllocError as Memory, Global};
 
 /// Some cells of a block along one axis: from one up to another, which is not among them.
 #[derive(Clone, Copy)]
@@ -120,17 +119,12 @@ fn beginning_of(shape: Shape, side: u32, root: u32) -> [u32; 3]
     ]
 }
 
-/// The roots in their order, with their cells at the beginning.
-pub(crate) fn filled_roots(alloc: Global, case: &Case) -> Result<Vec<(Id, Cells)>, Memory>
-    requires { IsValid case.now }
-    ensures { IfOk result (λ leaves. leaves.items ≡ initial case.now) }
+/// The cells of a root at the beginning: 0, or the value of the last fill that has the cell.
+pub fn filled_root(alloc: Global, case: &Case, root: u32) -> Result<Cells, Memory>
+    requires valid { IsValid case.now }
+    requires in_shape { root < root_count case.now.roots }
+    ensures { IfOk result (λ cells. cells ≡ (filled_root case.now root).1) }
 {
-    let count = case.root_count();
-    let mut leaves = Vec::with_capacity(alloc, count as usize)?;
-    for root in 0..count {
-        let first = beginning_of(case.roots, case.side, root);
-        let cells = filled_cells(alloc, case.side, first, case.fills.as_slice())?;
-        leaves.push((Id::root_of(root), cells))?;
-    }
-    Ok(leaves)
+    let first = beginning_of(case.roots, case.side, root);
+    filled_cells(alloc, case.side, first, case.fills.as_slice())
 }

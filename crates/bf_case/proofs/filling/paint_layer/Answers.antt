@@ -1,7 +1,7 @@
 use Rattle.std.proofs.Common.{refl, ap, ◌∙◌, ◌+◌, arith}
 use Rattle.bf_cells.specs.Grid.{with_row}
-use Rattle.bf_cli.proofs.BoxLemmas.{box_of_no_rows, box_and_row}
-use Rattle.bf_cli.proofs.filling.paint_layer.Goals as goal
+use Rattle.bf_case.proofs.BoxLemmas.{box_of_no_rows, box_and_row}
+use Rattle.bf_case.proofs.filling.paint_layer.Goals as goal
 
 pub loop-y-init : goal.loop-y-init
 loop-y-init c = record {

@@ -1,7 +1,7 @@
 use Rattle.std.proofs.Common.{◌≡◌}
 use Rattle.bf_cells.specs.Grid.{IsGrid}
-use Rattle.bf_cli.specs.Filling.{with_box}
-use Rattle.bf_cli.proofs.filling.paint_region.Given as goal
+use Rattle.bf_case.specs.Filling.{with_box}
+use Rattle.bf_case.proofs.filling.paint_region.Given as goal
 
 abbrev pub invariant-loop-z : goal.invariant-loop-z
 invariant-loop-z l = record {

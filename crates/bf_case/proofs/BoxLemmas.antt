@@ -1,24 +1,18 @@
 -- Boxes of cells of one value, painted row by row and layer by layer.
-use Rattle.std.proofs.Common.{◌≡◌, ℕ, ◌+◌, ◌*◌, ◌^◌, ◌<◌, ◌≤◌, ◌&&◌, ◌||◌, Bool, true, false, cond, eqb, ltb, leb, List, [], ◌∷◌, ◌++◌, length, map, take, get_or, slice_index, All, refl, sym, ◌∙◌, ap, arith}
-use Rattle.std.specs.List.{range_with_len}
+use Rattle.std.proofs.Common.{◌≡◌, ℕ, ◌+◌, ◌*◌, ◌^◌, ◌<◌, ◌≤◌, ◌&&◌, ◌||◌, Bool, true, false, cond, eqb, ltb, leb, List, [], length, take, get_or, slice_index, All, refl, sym, ◌∙◌, ap, arith}
 use Rattle.std.proofs.lemmas.Nat.{mul-le}
 use Rattle.std.proofs.lemmas.Bool.Decides.{nat_tests}
 use Rattle.std.proofs.lemmas.List.Sums.{fold_more}
 use Rattle.std.proofs.lemmas.List.Elements.{All-weaker}
-use Rattle.std.proofs.lemmas.List.FromFn.{map-range_with_len_more}
 use Rattle.bf_id.specs.Cube.{Voxel}
-use Rattle.bf_id.specs.Shape.{root_count}
-use Rattle.bf_id.specs.Id.{BlockId, root_id}
 use Rattle.bf_cells.specs.Grid.{Grid, IsGrid, cell_at, table, with_row, filled_with}
 use Rattle.bf_cells.proofs.GridLemmas.{side-table, cell_at-table, table_is, same_tables, IsGrid-table, cell_small}
 use Rattle.bf_case.specs.declared.case.Case.{Case}
 use Rattle.bf_case.specs.declared.case.Fill.{Fill}
 use Rattle.bf_case.specs.Case.{IsValid, IsFill}
-use Rattle.bf_case.specs.Map.{Leaf}
 use Rattle.bf_case.specs.Sample.{moved}
-use Rattle.bf_case.specs.Model.{is_between, has_cell, first_cell, filled_root, initial}
-use Rattle.bf_cli.specs.Roots.{blank_root, blank_roots}
-use Rattle.bf_cli.specs.Filling.{is_within, with_box, with_fill, filled_grid, HasRoom}
+use Rattle.bf_case.specs.Model.{is_between, has_cell, first_cell, filled_root}
+use Rattle.bf_case.specs.Filling.{is_within, with_box, with_fill, filled_grid, HasRoom}
 
 -- ---- tests
 
@@ -178,31 +172,9 @@ rooms c valid =
     small : (h extent : ℕ) → h < extent → extent ≤ 16 * 16 → h + 1 < 2 ^ 32
     small h extent below few = omega arith
 
--- a list made of a function of the index, with one more element
-pub push_fn : {X : Type 0} (f : ℕ → X) (xs : List X) (n : ℕ) (x : X) → xs ≡ map f (range_with_len 0 n) → x ≡ f n
-    → xs ++ x ∷ [] ≡ map f (range_with_len 0 (n + 1))
-push_fn f xs n x so_far is =
-    ap (λ l. l ++ x ∷ []) so_far ∙ ap (λ y. map f (range_with_len 0 n) ++ y ∷ []) is ∙ sym (map-range_with_len_more f 0 n n (omega arith))
-
--- a root with its cells filled
-pub root_is_filled : (c : Case) (k : ℕ) (i : BlockId) (g : Grid) (first : Voxel) (fills : List Fill) → i ≡ root_id k
-    → g ≡ filled_grid c.side first fills → first ≡ first_cell c.roots c.side k → fills ≡ c.fills → ◌≡◌ {A = Leaf} (i, g) (filled_root c k)
+-- the cells of a root, filled
+pub cells_are_filled : (c : Case) (k : ℕ) (g : Grid) (first : Voxel) (fills : List Fill)
+    → g ≡ filled_grid c.side first fills → first ≡ first_cell c.roots c.side k → fills ≡ c.fills → g ≡ (filled_root c k).1
 unfolding filled_grid
-root_is_filled c k i g first fills id cells begins are =
-    let named : BlockId → Leaf = λ j. (j, g) in
-    let with_cells : Grid → Leaf = λ h. (root_id k, h) in
-    ap named id ∙ ap with_cells (cells ∙ ap (λ v. filled_grid c.side v fills) begins ∙ ap (filled_grid c.side (first_cell c.roots c.side k)) are)
-
-pub all_filled : (c : Case) (leaves : List Leaf) (n : ℕ) → leaves ≡ map (filled_root c) (range_with_len 0 n) → n ≡ root_count c.roots → leaves ≡ initial c
-unfolding initial
-all_filled c leaves n are all = are ∙ ap (λ m. map (filled_root c) (range_with_len 0 m)) all
-
-pub all_blank : (c : Case) (leaves : List Leaf) (n : ℕ) → leaves ≡ map (blank_root c.side) (range_with_len 0 n) → n ≡ root_count c.roots → leaves ≡ blank_roots c
-unfolding blank_roots
-all_blank c leaves n are all = are ∙ ap (λ m. map (blank_root c.side) (range_with_len 0 m)) all
-
-pub root_is_blank : (side k : ℕ) (i : BlockId) (g : Grid) → i ≡ root_id k → g ≡ filled_with side 0 → ◌≡◌ {A = Leaf} (i, g) (blank_root side k)
-root_is_blank side k i g id cells =
-    let named : BlockId → Leaf = λ j. (j, g) in
-    let with_cells : Grid → Leaf = λ h. (root_id k, h) in
-    ap named id ∙ ap with_cells cells
+cells_are_filled c k g first fills cells begins are =
+    cells ∙ ap (λ v. filled_grid c.side v fills) begins ∙ ap (filled_grid c.side (first_cell c.roots c.side k)) are

@@ -1,6 +1,6 @@
 use Rattle.std.proofs.Common.{◌≡◌, ◌+◌}
-use Rattle.bf_cli.specs.Filling.{with_box}
-use Rattle.bf_cli.proofs.filling.paint_layer.Given as goal
+use Rattle.bf_case.specs.Filling.{with_box}
+use Rattle.bf_case.proofs.filling.paint_layer.Given as goal
 
 abbrev pub invariant-loop-y : goal.invariant-loop-y
 invariant-loop-y l = record {
