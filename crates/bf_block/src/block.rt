@@ -1,4 +1,5 @@
-ghost use Rattle.std.specs.Prelude.{◌≡◌, ◌<◌, true, false, IfOk, IfErr};
+ghost use Rattle.std.specs.Prelude.{◌≡◌, ◌<◌, Contains, IsFalse, IsTrue, IfErr, IfOk};
+ghost use Rattle.bf_case.specs.Map.{ids_of};
 ghost use Rattle.bf_block.specs.Around.{HoldSamples};
 ghost use Rattle.bf_block.specs.Block.{IsModels, kept_block, stepped_block, map_at, after_regrid};
 
@@ -48,5 +49,78 @@ impl Block {
         ensures model { IsModels self.now }
     {
         &self.cells
+    }
+    /// The same leaf after its time's regrid, which kept it.
+    pub fn kept(self) -> Block
+        requires fresh { IsFalse self.point.regridded }
+        requires leaf { Contains (ids_of (map_at self.case (after_regrid self.point.time))) self.id }
+        ensures { result ≡ kept_block self }
+    {
+        let Block {
+            setup,
+            point,
+            id,
+            cells,
+        } = self;
+        let point = Point {
+            time: point.time,
+            regridded: true,
+        };
+        Block {
+            setup,
+            point,
+            id,
+            cells,
+        }
+    }
+
+    /// The same leaf one step later, where the shell holds the samples around it. Blocks beside it may still need this one.
+    pub fn advanced(&self, alloc: Global, shell: &Shell) -> Result<Block, Memory>
+        requires regridded { IsTrue self.now.point.regridded }
+        requires time { self.now.point.time < self.now.case.steps }
+        requires side { shell.now.side ≡ self.now.cells.side }
+        requires samples { HoldSamples self.now.case.roots (map_at self.now.case self.now.point) self.now.id self.now.cells shell.now }
+        ensures { IfOk result (λ block. block ≡ stepped_block self.now shell.now) }
+    {
+        let mut cells = Cells::filled(alloc, self.cells.side(), 0)?;
+        self.cells.kernel(shell, &mut cells);
+        let point = Point {
+            time: self.point.time + 1,
+            regridded: false,
+        };
+        Ok(Block {
+            setup: self.setup.share()?,
+            point,
+            id: self.id,
+            cells,
+        })
+    }
+
+    /// The same leaf one step later, in place of this one. Where there is no memory for its new cells, the block comes
+    /// back as it was.
+    pub fn stepped(self, alloc: Global, shell: &Shell) -> Result<Block, Kept<Block>>
+        requires regridded { IsTrue self.point.regridded }
+        requires time { self.point.time < self.case.steps }
+        requires side { shell.now.side ≡ self.cells.side }
+        requires samples { HoldSamples self.case.roots (map_at self.case self.point) self.id self.cells shell.now }
+        ensures block { IfOk result (λ block. block ≡ stepped_block self shell.now) }
+        ensures kept { IfErr result (λ kept. kept.value ≡ self) }
+    {
+        match self.advanced(alloc, shell) {
+            Ok(block) => Ok(block),
+            Err(_) => Err(Kept { value: self }),
+        }
+    }
+
+    /// An equal block, for a message or a snapshot.
+    pub fn copy(&self) -> Result<Block, Memory>
+        ensures { IfOk result (λ block. block ≡ self.now) }
+    {
+        Ok(Block {
+            setup: self.setup.share()?,
+            point: self.point,
+            id: self.id,
+            cells: self.cells.copy()?,
+        })
     }
 }

@@ -6,12 +6,16 @@
 #![tactic(auto)]
 
 mod case;
+mod filling;
 mod items;
 pub mod laws;
 mod map;
+mod neighbours;
 pub mod rows;
 mod validity;
 
 pub use case::{Case, Fill};
+pub use filling::filled_root;
 pub use items::Items;
 pub use map::Map;
+pub use neighbours::{RootCells, surround};

@@ -10,3 +10,4 @@ pub mod StageLaws
 pub mod NextLaws
 pub mod Leaves
 pub mod LeafLaws
+pub mod Places
