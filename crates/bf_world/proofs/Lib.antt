@@ -2,6 +2,7 @@ pub mod QueueLemmas
 pub mod PlaceLemmas
 pub mod LawfulLemmas
 pub mod MemberLemmas
+pub mod OnceLemmas
 pub mod PeerLemmas
 pub mod MessageLemmas
 pub mod HoldLemmas
