@@ -9,6 +9,7 @@ pub mod HoldLemmas
 pub mod WaitingLemmas
 pub mod OrderLemmas
 pub mod RunLemmas
+pub mod ResultLemmas
 pub mod NeedLemmas
 pub mod StopLemmas
 pub mod WorldLemmas

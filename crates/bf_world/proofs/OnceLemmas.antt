@@ -1,6 +1,6 @@
 -- Lists in which no number stands twice, and what is told of each of their numbers, in any order.
-use Rattle.std.proofs.Common.{◌≡◌, ◌≢◌, ℕ, Bool, true, false, cond, ◌||◌, not, List, [], ◌∷◌, ◌++◌, append_assoc, map, filter, length, arith, refl, sym, subst, ◌∙◌, ap}
-use Rattle.std.specs.Prelude.{◌==◌, IsPermutation, Option, Some, None}
+use Rattle.std.proofs.Common.{◌≡◌, ℕ, Bool, true, false, cond, ◌||◌, not, List, [], ◌∷◌, ◌++◌, append_assoc, map, length, arith, refl, sym, subst, ◌∙◌, ap}
+use Rattle.std.specs.Prelude.{◌==◌, IsPermutation, Option, Some}
 use Rattle.std.specs.List.{flat_map, zip}
 use Rattle.std.proofs.lemmas.Bool.{eqb-true, eq-eqb}
 use Rattle.std.proofs.lemmas.List.Sorted.{IsPermutation-refl, IsPermutation-trans, IsPermutation-append_left, IsPermutation-append_right, IsPermutation-append_comm}
@@ -145,10 +145,6 @@ same_gifts f (x ∷ xs) ys apart others same =
 
 -- what each member gives, told by looking up its local
 
-abbrev pub given_of : {L T : Type 0} (f : ℕ → L → List T) → (rank : ℕ) → Option L → List T
-given_of f rank (Some local) = f rank local
-given_of f rank None = []
-
 same_on : {X : Type 0} (f g : ℕ → List X) (xs : List ℕ) → ((y : ℕ) → is_member xs y ≡ true → f y ≡ g y) → flat_map f xs ≡ flat_map g xs
 same_on f g [] same = refl
 same_on f g (x ∷ xs) same =
@@ -162,14 +158,15 @@ same_on f g (x ∷ xs) same =
     rest_in true b holds = refl
     rest_in false b holds = holds
 
-pub gifts_of_seats : {L T : Type 0} (g : ℕ × L → T) (members : List ℕ) (locals : List L) → Apart members → length locals ≡ length members
-    → flat_map (λ rank. given_of (λ r local. g (r, local) ∷ []) rank (local_of members locals rank)) members ≡ map g (zip members locals)
-gifts_of_seats g [] locals apart each = refl
-gifts_of_seats g (x ∷ xs) [] apart each = absurd (omega arith)
-gifts_of_seats {L = L} {T = T} g (x ∷ xs) (l ∷ ls) apart each =
-    rw (eq-eqb x x refl)
-    (ap (λ ts. g (x, l) ∷ ts) (same_on _ (λ rank. given_of (λ r local. g (r, local) ∷ []) rank (local_of xs ls rank)) xs
-    (λ y member. ap (given_of (λ r local. g (r, local) ∷ []) y) (looks_on y (x == y) refl member)) ∙ gifts_of_seats g xs ls apart.1 (omega arith)))
+pub gifts_of_seats : {L T : Type 0} (g : ℕ × L → T) (h : ℕ → Option L → List T) → ((rank : ℕ) (local : L) → h rank (Some local) ≡ g (rank, local) ∷ [])
+    → (members : List ℕ) (locals : List L) → Apart members → length locals ≡ length members
+    → flat_map (λ rank. h rank (local_of members locals rank)) members ≡ map g (zip members locals)
+gifts_of_seats g h gives [] locals apart each = refl
+gifts_of_seats g h gives (x ∷ xs) [] apart each = absurd (omega arith)
+gifts_of_seats {L = L} {T = T} g h gives (x ∷ xs) (l ∷ ls) apart each =
+    rw (eq-eqb x x refl, gives x l)
+    (ap (λ ts. g (x, l) ∷ ts) (same_on _ (λ rank. h rank (local_of xs ls rank)) xs
+    (λ y member. ap (h y) (looks_on y (x == y) refl member)) ∙ gifts_of_seats g h gives xs ls apart.1 (omega arith)))
   where
     looks_on : (y : ℕ) (b : Bool) → (x == y) ≡ b → is_member xs y ≡ true → cond b (Some l) (local_of xs ls y) ≡ local_of xs ls y
     looks_on y true same member = absurd (let e : false ≡ true = sym apart.0 ∙ ap (is_member xs) (eqb-true x y same) ∙ member in cc)
