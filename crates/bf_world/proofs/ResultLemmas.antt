@@ -33,7 +33,7 @@ use Rattle.bf_world.specs.Results.{parcels_of}
 use Rattle.bf_world.specs.Runs.{Run, place, begun, deaths, last_locals, will_be_filled, parcel_with, parcel_of, run_happened, run_decided, run_settled, next_run, is_legal_in, opening_run, run_from, is_legal_from, run_after, is_journal}
 use Rattle.bf_world.proofs.MemberLemmas.{Apart, apart_range}
 use Rattle.bf_world.proofs.OnceLemmas.{member_more, apart_more, member_without, apart_without, none_listed, same_gifts, gifts_of_seats}
-use Rattle.bf_world.proofs.RangeLemmas.{in_filtered}
+use Rattle.bf_core.proofs.ListLemmas.{in_filtered}
 use Rattle.bf_world.proofs.LawfulLemmas.{IsSteady, IsLawful, happened_steady, last_good, next_lawful, opening_lawful}
 
 undone : (s : Stage) → is_arrived s ≡ false → has_finished_rounds s ≡ false
