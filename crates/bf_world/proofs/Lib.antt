@@ -18,3 +18,5 @@ pub mod OpeningLemmas
 pub mod CountLemmas
 pub mod RangeLemmas
 pub mod WeightLemmas
+pub mod ReachedLemmas
+pub mod PeaceLemmas

@@ -111,7 +111,7 @@ unnot : (b : Bool) → not b ≡ true → b ≡ false
 unnot true still = absurd (cc)
 unnot false _ = refl
 
-someone_dead : (state : State) → is_ripe state ≡ true → IsFair state → decision state ≡ Restore → Someone is_dead state
+pub someone_dead : (state : State) → is_ripe state ≡ true → IsFair state → decision state ≡ Restore → Someone is_dead state
 someone_dead state ripe fair restores =
     by_stage (stage state undone.0) refl
   where

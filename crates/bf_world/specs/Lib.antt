@@ -5,4 +5,5 @@ pub mod Runs
 pub mod Messages
 pub mod Worlds
 pub mod Results
+pub mod Ends
 pub mod Settled
