@@ -241,7 +241,7 @@ decision_outcome state event filled made may ripe is_made =
 
 -- which decision ends a run so
 
-ends_memory : (state : State) (made : Decision) → state.outcome ≡ None → outcome_of state made ≡ Some outcomes.Memory → made ≡ WantMemory
+pub ends_memory : (state : State) (made : Decision) → state.outcome ≡ None → outcome_of state made ≡ Some outcomes.Memory → made ≡ WantMemory
 ends_memory state (Lose home buddy) none ends = absurd (cc)
 ends_memory state WantMemory none _ = refl
 ends_memory state Commit none ends = at_end (state.epoch.target == state.steps) ends

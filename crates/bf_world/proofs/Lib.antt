@@ -20,3 +20,4 @@ pub mod RangeLemmas
 pub mod WeightLemmas
 pub mod ReachedLemmas
 pub mod PeaceLemmas
+pub mod EndLemmas

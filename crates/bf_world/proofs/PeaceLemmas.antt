@@ -1,6 +1,6 @@
 -- A run in which no rank is due to die: nobody dies or waits in vain, no part is lost, and nothing is restored.
-use Rattle.std.proofs.Common.{◌≡◌, ◌≢◌, ℕ, zero, suc, ◌+◌, ◌<◌, ◌≤◌, min, Bool, true, false, cond, ◌&&◌, ◌||◌, not, List, [], ◌∷◌, ◌++◌, map, filter, length, arith, refl, sym, subst, ◌∙◌, ap, inl, inr}
-use Rattle.std.specs.Prelude.{◌==◌, ◌⊎◌, Option, Some, None, is_some, if◌then◌else◌}
+use Rattle.std.proofs.Common.{◌≡◌, ℕ, zero, suc, ◌+◌, ◌<◌, min, Bool, true, false, cond, ◌&&◌, ◌||◌, List, [], ◌∷◌, map, filter, length, arith, refl, sym, subst, ◌∙◌, ap, inl, inr}
+use Rattle.std.specs.Prelude.{◌==◌, Option, Some, None, is_some, if◌then◌else◌}
 use Rattle.std.specs.List.{range_with_len, flat_map, list_any}
 use Rattle.std.specs.Map.{lookup}
 use Rattle.std.proofs.Math.ListN.{get_or-map}
@@ -8,8 +8,6 @@ use Rattle.std.proofs.lemmas.Bool.{cases_eq, cases_lt, eqb-true}
 use Rattle.std.proofs.lemmas.List.{get_or-set_same, get_or-set_other, get_or_past, length-set, length-map}
 use Rattle.std.proofs.lemmas.List.FromFn.{length-map-range_with_len, get_or-map-range_with_len}
 use Rattle.bf_buddy.specs.Members.{is_member}
-use Rattle.bf_buddy.specs.Buddy.{buddy_of}
-use Rattle.bf_buddy.specs.Losses.{first_lost_of}
 use Rattle.bf_program.specs.declared.epoch.Epoch.{Epoch}
 use Rattle.bf_program.specs.Meanings.{Meanings}
 use Rattle.bf_program.specs.Laws.{KeepsLimits, KeepsGood, KeepsStored}
@@ -25,19 +23,18 @@ use Rattle.bf_core.specs.declared.place.Place.{Place}
 use Rattle.bf_core.specs.declared.standing.Stage.{Stage}
 use Rattle.bf_core.specs.declared.standing.Stage.TheVariants.{Running, Arrived, Leaving, Ended, Dead, Gone}
 use Rattle.bf_core.specs.declared.standing.Standing.{Standing}
-use Rattle.bf_core.specs.Stages.{is_done, is_leaving, is_dead, is_gone, is_short, wants_memory, goes_on, lives, after_decision}
+use Rattle.bf_core.specs.Stages.{is_done, is_leaving, is_dead, goes_on, lives, after_decision}
 use Rattle.bf_core.specs.Places.{is_just, next_receive}
-use Rattle.bf_core.specs.States.{State, standing, stage, is_active, has_dead_member, is_short_of_memory, live_members, first_lost, is_finished, opening}
-use Rattle.bf_core.specs.Legal.{actor, is_legal, waits, is_memory}
+use Rattle.bf_core.specs.States.{State, standing, stage, is_active, live_members, first_lost, opening}
+use Rattle.bf_core.specs.Legal.{actor, is_legal, waits}
 use Rattle.bf_core.specs.Next.{with_stage, may_decide, happened, is_ripe, decision, decided, dissolved, ended, committed, settled, next}
-use Rattle.bf_core.proofs.StageLemmas.{nobody, Someone, Nobody, someone, nobody_any, is_rank, stage_same, stage_other, stage_dissolved}
+use Rattle.bf_core.proofs.StageLemmas.{nobody, Someone, someone, is_rank, stage_same, stage_other, stage_dissolved}
 use Rattle.bf_core.proofs.SoundLemmas.{IsSound, first_of_two, acting, in_list, leaving_stage}
-use Rattle.bf_core.proofs.ArrivalLemmas.{IsFair, has_ended, happened_fair}
-use Rattle.bf_core.proofs.LawLemmas.{Losses, IsSameEpoch, same_epoch, running_where_ripe, second_of_two, decision_lost, next_settles, next_happens, ripe_decides, unripe_waits}
-use Rattle.bf_core.proofs.DecideLemmas.{decision_wants}
+use Rattle.bf_core.proofs.ArrivalLemmas.{IsFair, happened_fair}
+use Rattle.bf_core.proofs.LawLemmas.{Losses, same_epoch, running_where_ripe, second_of_two, decision_lost, next_settles, next_happens, ripe_decides, unripe_waits}
 use Rattle.bf_world.specs.Ends.{NobodyDies, tells_of_death}
-use Rattle.bf_world.specs.Runs.{Run, place, death_with, deaths, will_be_filled, opening_run, next_run, is_legal_in, run_from, is_legal_from, run_after, is_journal}
-use Rattle.bf_world.specs.Worlds.{is_restore, brings_decision, brings_restore, restores_from, restores_in}
+use Rattle.bf_world.specs.Runs.{Run, place, death_with, deaths, will_be_filled, opening_run, next_run, is_legal_in, run_from, is_legal_from, is_journal}
+use Rattle.bf_world.specs.Worlds.{is_restore, brings_decision, brings_restore, restores_from}
 use Rattle.bf_world.proofs.LawfulLemmas.{IsLawful, core_next, next_lawful, opening_lawful}
 use Rattle.bf_world.proofs.WaitingLemmas.{member_below}
 use Rattle.bf_world.proofs.WeightLemmas.{someone_dead}

@@ -1,12 +1,10 @@
 -- Every journal leads the state machine from its opening, so the laws of the state machine hold of its core.
-use Rattle.std.proofs.Common.{◌≡◌, ℕ, Bool, true, false, ◌&&◌, List, [], ◌∷◌, refl, sym, subst, ◌∙◌, ap}
+use Rattle.std.proofs.Common.{◌≡◌, ℕ, true, List, [], ◌∷◌, refl, sym, ◌∙◌, ap}
 use Rattle.bf_program.specs.Meanings.{Meanings}
 use Rattle.bf_program.specs.Laws.{KeepsLimits, KeepsGood, KeepsStored}
 use Rattle.bf_program.specs.declared.epoch.Epoch.{Epoch}
 use Rattle.bf_core.specs.declared.event.Event.{Event}
-use Rattle.bf_core.specs.States.{State}
 use Rattle.bf_core.specs.Legal.{actor, is_legal}
-use Rattle.bf_core.specs.Next.{next}
 use Rattle.bf_core.specs.Journals.{Move, after, are_legal}
 use Rattle.bf_core.specs.Orders.{IsReached}
 use Rattle.bf_core.proofs.SoundLemmas.{first_of_two}
