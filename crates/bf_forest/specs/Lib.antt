@@ -5,3 +5,6 @@ pub mod Goods
 pub mod StepLaws
 pub mod PlainRounds
 pub mod Hearing
+pub mod ReadLaws
+pub mod PeerLaws
+pub mod GoodLaws
