@@ -1,6 +1,6 @@
 -- The opening is good; a commit and a restore keep good locals good.
-use Rattle.std.proofs.Common.{◌≡◌, ℕ, suc, ◌+◌, ◌*◌, ◌/◌, ◌-◌, ◌<◌, ◌≤◌, ◌^◌, Bool, true, false, cond, List, [], ◌∷◌, ◌++◌, length, map, min, arith, refl, ap, sym, ◌∙◌, subst}
-use Rattle.std.specs.Prelude.{◌==◌, filter, None, Some, All}
+use Rattle.std.proofs.Common.{◌≡◌, ℕ, ◌+◌, ◌*◌, ◌/◌, ◌-◌, ◌<◌, ◌≤◌, Bool, true, false, cond, List, [], ◌∷◌, ◌++◌, map, min, arith, refl, sym, ◌∙◌, subst}
+use Rattle.std.specs.Prelude.{◌==◌, filter, None, All}
 use Rattle.std.specs.List.{range_with_len, zip}
 use Rattle.std.proofs.Math.Nat.{div-lt_iff_lt-mul, mul-lt-mul_of_pos_left}
 use Rattle.std.proofs.lemmas.List.Elements.{All-nil, All-cons, All-head, All-tail, All-append, All-map, All-weaker}
@@ -10,22 +10,18 @@ use Rattle.bf_buddy.specs.Losses.{first_lost_of}
 use Rattle.bf_program.specs.declared.epoch.Epoch.{Epoch}
 use Rattle.bf_program.specs.Epochs.{first_epoch, target_of, epoch_after_commit}
 use Rattle.bf_program.specs.Restores.{restored_epoch, restored_locals}
-use Rattle.bf_id.specs.Id.{BlockId, root_id}
 use Rattle.bf_id.specs.Shape.{root_count}
 use Rattle.bf_case.specs.declared.case.Case.{Case}
 use Rattle.bf_case.specs.Case.{IsValid, first_rank_of}
 use Rattle.bf_case.specs.Model.{model}
 use Rattle.bf_case.proofs.LookupLemmas.{cells_at-initial}
 use Rattle.bf_block.specs.declared.setup.Setup.{Setup}
-use Rattle.bf_block.specs.Runs.{CanRun}
 use Rattle.bf_block.specs.Setup.{case_of, every_setup_runs}
 use Rattle.bf_block.specs.Block.{BlockValue, initial_block}
-use Rattle.bf_parts.specs.declared.side.Side.{Side}
 use Rattle.bf_parts.specs.KeyLaws.{keys_made}
 use Rattle.bf_parts.specs.Programs.{HasParts, HasOpening}
 use Rattle.bf_parts.specs.ProgramLaws.{opens_shared, keeps_shared, restores_shared}
 use Rattle.bf_parts.specs.Seats.{all_members, all_passed, range_within}
-use Rattle.bf_parts.specs.Shares.{AreOf, IsShared}
 use Rattle.bf_parts.specs.Sides.{bare, regained}
 use Rattle.bf_forest.specs.declared.local.ForestLocal.{ForestLocal}
 use Rattle.bf_forest.specs.Goods.{IsBlockAt, HasModels, IsGood}

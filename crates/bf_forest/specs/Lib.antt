@@ -8,3 +8,5 @@ pub mod Hearing
 pub mod ReadLaws
 pub mod PeerLaws
 pub mod GoodLaws
+pub mod StoredLaws
+pub mod PieceLaws

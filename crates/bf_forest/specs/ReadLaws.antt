@@ -1,7 +1,6 @@
 -- What a restore reads changes by a commit alone, and peers are all other members.
-use Rattle.std.proofs.Common.{◌≡◌, ℕ, Bool, true, false, List, refl, ap, sym}
-use Rattle.std.specs.Prelude.{◌==◌, not, Option, Some, None}
-use Rattle.std.proofs.lemmas.Bool.{eq-eqb}
+use Rattle.std.proofs.Common.{◌≡◌, ℕ, List, refl, ap}
+use Rattle.std.specs.Prelude.{Some, None}
 use Rattle.bf_program.specs.declared.epoch.Epoch.{Epoch}
 use Rattle.bf_program.specs.Laws.{KeepsReads}
 use Rattle.bf_case.specs.declared.case.Case.{Case}
@@ -9,14 +8,12 @@ use Rattle.bf_block.specs.declared.setup.Setup.{Setup}
 use Rattle.bf_block.specs.Setup.{case_of}
 use Rattle.bf_block.specs.Block.{BlockValue}
 use Rattle.bf_parts.specs.declared.side.Side.{Side}
-use Rattle.bf_parts.specs.Bools.{eqb_swap}
-use Rattle.bf_parts.specs.Programs.{HasPeers}
 use Rattle.bf_forest.specs.declared.local.ForestLocal.{ForestLocal}
 use Rattle.bf_forest.specs.declared.message.ForestMessage.{ForestMessage}
 use Rattle.bf_forest.specs.declared.message.ForestMessage.TheVariants.{Step as StepMessage, Snapshot as SnapshotMessage}
 use Rattle.bf_forest.specs.declared.stage.Stage.{Stage}
 use Rattle.bf_forest.specs.declared.stage.Stage.TheVariants.{Step, Snapshot}
-use Rattle.bf_forest.specs.Meanings.{forest, forest_look, heard_of, ended, restored}
+use Rattle.bf_forest.specs.Meanings.{forest, heard_of, ended, restored}
 use Rattle.bf_forest.specs.Stages.{stage_of}
 
 pub heard_active : (local : ForestLocal) (msg : ForestMessage) → (heard_of local msg).active ≡ local.active
