@@ -1,5 +1,6 @@
 -- Blocks that are the model's make its map together, and a step leads to its next map.
 use Rattle.std.proofs.Common.{◌≡◌, ℕ, suc, ◌+◌, ◌<◌, true, false, List, [], ◌∷◌, length, get_or, map, Some, ◌⊎◌, inl, inr, Contains, refl, sym, ap, subst, ◌∙◌, arith, All}
+use Rattle.std.specs.List.{range_with_len}
 use Rattle.std.proofs.lemmas.Bool.{cases_Bool}
 use Rattle.std.proofs.lemmas.List.{length-map, get_or-map}
 use Rattle.std.proofs.lemmas.List.Elements.{All-map, All-weaker, All-contains, Contains-get_or}
@@ -11,12 +12,12 @@ use Rattle.bf_id.proofs.Tilings.{Contains-none, Contains-cons_cases, Contains-fr
 use Rattle.bf_cells.specs.Grid.{Grid, grid_with, table}
 use Rattle.bf_case.specs.declared.case.Case.{Case}
 use Rattle.bf_case.specs.Map.{Leaf, ids_of, cells_at}
-use Rattle.bf_case.specs.Model.{model}
+use Rattle.bf_case.specs.Model.{root_ids, model}
 use Rattle.bf_case.specs.Sample.{cell_corner}
 use Rattle.bf_case.specs.Stencil.{stencil, stepped_value}
 use Rattle.bf_case.proofs.ListLemmas.{Contains-map}
 use Rattle.bf_case.proofs.LookupLemmas.{cells_at-leaf, leaf_from_cells_at, cells_at-stencil}
-use Rattle.bf_case.proofs.MapLemmas.{regridded_same, IsRootMap-model}
+use Rattle.bf_case.proofs.MapLemmas.{regridded_same, IsRootMap, IsRootMap-model}
 use Rattle.bf_block.specs.declared.point.Point.{Point}
 use Rattle.bf_block.specs.Runs.{CanRun}
 use Rattle.bf_block.specs.Block.{BlockValue, map_at, before_regrid}
@@ -64,9 +65,9 @@ is_found (leaf ∷ leaves) i g has = by (cases_Bool (id_eq leaf.0 i)) (is_found 
       where
         rest : ((i, g) ≡ leaf) ⊎ Contains leaves (i, g) → Contains leaves (i, g)
         rest (inl same) = absurd (
-            let its : leaf.0 ≡ i = ap (λ (l : Leaf). l.0) (sym same) in
-            let passed : id_eq leaf.0 i ≡ true = (id_eq_is_equal leaf.0 i).1 its in
-            let both : true ≡ false = sym passed ∙ failed in cc)
+          let its : leaf.0 ≡ i = ap (λ (l : Leaf). l.0) (sym same) in
+          let passed : id_eq leaf.0 i ≡ true = (id_eq_is_equal leaf.0 i).1 its in
+          let both : true ≡ false = sym passed ∙ failed in cc)
         rest (inr in') = in'
 
 -- each root is among the blocks
@@ -93,8 +94,8 @@ model_root c time k d runs below =
     let within : k < length (model c time) = omega arith in (
       within,
       sym (get_or-map (λ (leaf : Leaf). leaf.0) (model c time) k d (root_id 0) within)
-          ∙ ap (λ l. get_or l k (root_id 0)) ids
-          ∙ get_or-map-range_with_len root_id 0 (root_count c.roots) k k (root_id 0) below (omega arith),
+      ∙ ap (λ l. get_or l k (root_id 0)) ids
+      ∙ get_or-map-range_with_len root_id 0 (root_count c.roots) k k (root_id 0) below (omega arith),
     )
 
 -- the blocks make the model's map together
