@@ -11,3 +11,8 @@ pub mod NextLaws
 pub mod Leaves
 pub mod LeafLaws
 pub mod Places
+pub mod ReadLaws
+pub mod PeerLaws
+pub mod GoodLaws
+pub mod StoredLaws
+pub mod PieceLaws
