@@ -5,4 +5,9 @@ pub mod Goods
 pub mod StepLaws
 pub mod PlainRounds
 pub mod Hearing
+pub mod SeatLaws
+pub mod StageLaws
+pub mod NextLaws
+pub mod Leaves
+pub mod LeafLaws
 pub mod Places

@@ -85,7 +85,7 @@ root_cells c time known k runs are has below =
     found_is_models c time known (root_id k) found.0 are found.1 ∙ ap (λ o. Some (cells_or o (grid_with 0 []))) (sym found.1)
 
 -- the leaf at a place of the model's map is that root
-model_root : (c : Case) (time k : ℕ) (d : Leaf) → CanRun c → k < root_count c.roots
+pub model_root : (c : Case) (time k : ℕ) (d : Leaf) → CanRun c → k < root_count c.roots
     → (k < length (model c time)) × ((get_or (model c time) k d).0 ≡ root_id k)
 model_root c time k d runs below =
     let ids = (IsRootMap-model c time runs.valid runs.one_level).roots in

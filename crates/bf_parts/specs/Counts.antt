@@ -1,5 +1,5 @@
 -- How many of some items pass a test, and how often a key is among them.
-use Rattle.std.proofs.Common.{◌≡◌, ℕ, suc, zero, ◌+◌, ◌<◌, ◌≤◌, Bool, true, false, cond, List, [], ◌∷◌, ◌++◌, arith, refl, ap, sym, ◌∙◌}
+use Rattle.std.proofs.Common.{◌≡◌, ℕ, suc, zero, ◌+◌, ◌<◌, Bool, true, false, cond, List, [], ◌∷◌, ◌++◌, arith, refl, ap, sym, ◌∙◌}
 use Rattle.std.specs.Prelude.{◌==◌, ◌||◌, map, All}
 use Rattle.std.specs.List.{AllPairs, AllZip, count_by, sum_by, flat_map, range_with_len}
 use Rattle.std.specs.List.Sorted.{IsStrictlyIncreasing}
@@ -9,7 +9,6 @@ use Rattle.std.proofs.lemmas.List.Elements.{All-head, All-tail}
 use Rattle.std.proofs.lemmas.List.Kept.{AllPairs-from_increasing}
 use Rattle.std.proofs.lemmas.List.Sums.{sum_by-cons, sum_by-append}
 use Rattle.bf_buddy.specs.Members.{is_member}
-use Rattle.bf_parts.specs.Bools.{or_later}
 use Rattle.bf_parts.specs.Shares.{held, once}
 
 pub count_none : {X : Type 0} (test : X → Bool) → count_by test [] ≡ 0

@@ -1,10 +1,10 @@
 -- A test of items that is a test of their keys counts the same wherever the same keys are.
-use Rattle.std.proofs.Common.{◌≡◌, ℕ, suc, zero, ◌+◌, ◌<◌, ◌≤◌, Bool, true, false, cond, List, [], ◌∷◌, arith, refl, ap, sym, ◌∙◌}
+use Rattle.std.proofs.Common.{◌≡◌, ℕ, ◌+◌, ◌<◌, ◌≤◌, Bool, true, false, cond, List, [], ◌∷◌, arith, refl, ap, sym, ◌∙◌}
 use Rattle.std.specs.Prelude.{◌==◌, ◌&&◌, nat_lt, All}
-use Rattle.std.specs.List.{count_by, sum_by, flat_map, AllZip, range_with_len}
+use Rattle.std.specs.List.{count_by, sum_by, range_with_len}
 use Rattle.std.proofs.lemmas.Bool.{eqb-true, eq-eqb}
 use Rattle.std.proofs.lemmas.Bool.Decides.{nat_tests}
-use Rattle.std.proofs.lemmas.List.Elements.{All-nil, All-head, All-tail, All-append}
+use Rattle.std.proofs.lemmas.List.Elements.{All-head, All-tail}
 use Rattle.bf_parts.specs.Counts.{count_cons, held_none, held_cons, sums_same, sum_none, sum_of_both, amount_at, member_once}
 use Rattle.bf_parts.specs.Seats.{range_has, range_rises}
 use Rattle.bf_parts.specs.Shares.{held, once, AreOf}
@@ -97,12 +97,3 @@ whole_counted key test passes count items alike each =
 
     under : (k : ℕ) → k < 0 + count → nat_lt k count ≡ true
     under k low = grind (arith, nat_tests)
-
--- what holds of each local's items holds of all
-pub all_together : {L I : Type 0} (P : I → Type 0) (R : ℕ → L → Type 0) (items : L → List I) (members : List ℕ) (locals : List L) → AllZip R members locals
-    → ((rank : ℕ) (local : L) → R rank local → All P (items local)) → All P (flat_map items locals)
-all_together P R items [] [] each holds = All-nil P
-all_together P R items [] (local ∷ locals) each holds = absurd each
-all_together P R items (member ∷ members) [] each holds = absurd each
-all_together P R items (member ∷ members) (local ∷ locals) each holds =
-    All-append P (items local) (flat_map items locals) (holds member local each.0) (all_together P R items members locals each.1 holds)

@@ -12,3 +12,5 @@ pub mod Openings
 pub mod ShareLaws
 pub mod Programs
 pub mod ProgramLaws
+pub mod PeerLaws
+pub mod PieceLaws

@@ -1,6 +1,6 @@
 -- The laws of a program whose ranks keep their items in parts.
-use Rattle.std.proofs.Common.{◌≡◌, ℕ, ◌+◌, ◌<◌, ◌≤◌, Bool, true, false, cond, List, [], ◌∷◌, length, map, arith, refl, ap, sym, ◌∙◌, subst}
-use Rattle.std.specs.Prelude.{◌==◌, ◌&&◌, ◌||◌, not, filter, All, IsTrue, None, Some}
+use Rattle.std.proofs.Common.{◌≡◌, ℕ, ◌+◌, ◌<◌, Bool, true, false, cond, List, [], ◌∷◌, length, map, arith, refl, ap, sym, ◌∙◌, subst}
+use Rattle.std.specs.Prelude.{◌==◌, ◌&&◌, ◌||◌, not, filter, All, IsTrue, None}
 use Rattle.std.specs.List.{AllZip, zip, range_with_len, list_any}
 use Rattle.std.specs.List.Sorted.{IsStrictlyIncreasing}
 use Rattle.std.specs.Map.{keys_of}
@@ -12,7 +12,7 @@ use Rattle.bf_buddy.specs.Buddy.{buddy_of, predecessor_of}
 use Rattle.bf_buddy.specs.Losses.{first_lost_of}
 use Rattle.bf_program.specs.declared.epoch.Epoch.{Epoch}
 use Rattle.bf_program.specs.Epochs.{first_epoch, epoch_after_commit}
-use Rattle.bf_program.specs.Laws.{KeepsReads, KeepsGood, KeepsStored, KeepsParts}
+use Rattle.bf_program.specs.Laws.{KeepsReads, KeepsStored, KeepsParts}
 use Rattle.bf_program.proofs.ReadLemmas.{reads_receives}
 use Rattle.bf_program.specs.Lockstep.{after_receives, after_round, next_locals}
 use Rattle.bf_program.specs.Meanings.{Meanings}
@@ -21,11 +21,10 @@ use Rattle.bf_parts.specs.declared.side.Side.{Side}
 use Rattle.bf_parts.specs.Bools.{or_false, and_true, and_false, eqb_swap}
 use Rattle.bf_parts.specs.FillLaws.{own_filled, other_filled, apart_from}
 use Rattle.bf_parts.specs.Looks.{Look, stored_of, holds_part, homes_of}
-use Rattle.bf_parts.specs.Openings.{IsKept, IsRestored}
 use Rattle.bf_parts.specs.Programs.{HasParts, HasOpening, Shared}
 use Rattle.bf_parts.specs.Seats.{seats_weaker, all_passed, member_filter, range_within, seats_length}
 use Rattle.bf_parts.specs.ShareLaws.{mine, stored_is, opening_shared, opening_stored, commit_shared, commit_stored, restore_shared, restore_stored}
-use Rattle.bf_parts.specs.Shares.{is_filled, IsSide, IsMine, IsShared}
+use Rattle.bf_parts.specs.Shares.{is_filled, IsSide, IsMine}
 use Rattle.bf_parts.specs.SideLaws.{gives_is, heir_test}
 use Rattle.bf_parts.specs.Sides.{gives, has_items, is_given}
 

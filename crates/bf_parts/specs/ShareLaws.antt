@@ -1,6 +1,6 @@
 -- The opening shares items out; a commit and a restore leave them shared out.
-use Rattle.std.proofs.Common.{◌≡◌, ℕ, ◌+◌, ◌<◌, ◌≤◌, Bool, true, false, cond, List, [], ◌++◌, length, map, arith, refl, ap, sym, ◌∙◌, subst}
-use Rattle.std.specs.Prelude.{◌==◌, ◌||◌, ◌&&◌, filter, None, Some}
+use Rattle.std.proofs.Common.{◌≡◌, ℕ, ◌<◌, ◌≤◌, Bool, true, false, cond, List, [], ◌++◌, map, arith, refl, ap, sym, ◌∙◌, subst}
+use Rattle.std.specs.Prelude.{◌==◌, ◌||◌, filter, None, Some}
 use Rattle.std.specs.List.{AllZip, range_with_len, zip}
 use Rattle.std.proofs.lemmas.Bool.{eqb-true, eqb-false}
 use Rattle.std.proofs.lemmas.List.Kept.{IsStrictlyIncreasing-filter}
@@ -17,7 +17,7 @@ use Rattle.bf_parts.specs.declared.side.Side.{Side}
 use Rattle.bf_parts.specs.Bools.{both}
 use Rattle.bf_parts.specs.FillLaws.{AreSeats, fills, stored_is_filled}
 use Rattle.bf_parts.specs.Looks.{Look, stored_of}
-use Rattle.bf_parts.specs.Openings.{opening_side, other_items, IsOpened, IsKept, IsRestored}
+use Rattle.bf_parts.specs.Openings.{opening_side, IsOpened, IsKept, IsRestored}
 use Rattle.bf_parts.specs.Seats.{seats_weaker, seat_of, locals_changed, seats_kept, range_seats, member_filter, range_rises, range_has}
 use Rattle.bf_parts.specs.Shares.{held, is_filled, AreOf, AreCopies, IsSide, IsOwned, IsHeld, IsMine, IsShared}
 use Rattle.bf_parts.specs.Sides.{regained}
