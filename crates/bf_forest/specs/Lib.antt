@@ -11,3 +11,4 @@ pub mod NextLaws
 pub mod Leaves
 pub mod LeafLaws
 pub mod Places
+pub mod Known
