@@ -1,14 +1,17 @@
 -- What a regrid and a step make of a block is the model's again.
-use Rattle.std.proofs.Common.{◌≡◌, true, false, Some, subst, sym}
+use Rattle.std.proofs.Common.{◌≡◌, ℕ, ◌<◌, true, false, Some, subst, sym}
+use Rattle.bf_id.specs.Id.{BlockId, root_id}
+use Rattle.bf_id.specs.Shape.{root_count}
 use Rattle.bf_cells.specs.Grid.{Grid}
 use Rattle.bf_cells.specs.Shell.{Walls}
 use Rattle.bf_cells.specs.Kernel.{relaxed_grid}
 use Rattle.bf_case.specs.declared.case.Case.{Case}
 use Rattle.bf_case.specs.Map.{cells_at}
-use Rattle.bf_case.specs.Model.{model_at}
+use Rattle.bf_case.specs.Model.{filled_root, model, model_at}
+use Rattle.bf_case.proofs.LookupLemmas.{cells_at-initial}
 use Rattle.bf_block.specs.Runs.{CanRun}
 use Rattle.bf_block.specs.Around.{HoldSamples}
-use Rattle.bf_block.specs.Block.{BlockValue, IsModels, map_at, kept_block, stepped_block}
+use Rattle.bf_block.specs.Block.{BlockValue, IsModels, before_regrid, map_at, kept_block, stepped_block}
 use Rattle.bf_block.proofs.Steps.{kept_leaf, stepped_leaf}
 
 pub kept_is_models : (b whole : BlockValue) → b ≡ whole → CanRun b.case → IsModels b → whole.point.regridded ≡ false → IsModels (kept_block b)
@@ -31,3 +34,12 @@ stepped_is_models b whole c w cells same of_case runs is after fits holds made =
           (subst (λ after. cells_at (model_at b.case b.point.time after) b.id ≡ Some b.cells) later is.leaf) fits_here
           (subst (λ after. HoldSamples b.case.roots (model_at b.case b.point.time after) b.id b.cells w) later holds_here));
     }
+
+-- a root at the beginning, of setups of one case
+pub initial_is_models : (c filled shared : Case) (root : ℕ) (id : BlockId) (cells : Grid) → filled ≡ c → shared ≡ c → CanRun filled → root < root_count c.roots
+    → id ≡ root_id root → cells ≡ (filled_root filled root).1
+    → IsModels (record { case = shared; point = before_regrid 0; id = id; cells = cells })
+unfolding model
+initial_is_models c filled shared root id cells same also runs below named made =
+    let valid = subst (λ (k : Case). CanRun k) same runs in
+    rw (also, named, made, same) (record { leaf = cells_at-initial c root valid.valid below })

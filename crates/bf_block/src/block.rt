@@ -1,9 +1,11 @@
 ghost use Rattle.std.specs.Prelude.{◌≡◌, ◌<◌, Contains, IsFalse, IsTrue, IfErr, IfOk};
+ghost use Rattle.bf_id.specs.Shape.{root_count};
 ghost use Rattle.bf_case.specs.Map.{ids_of};
 ghost use Rattle.bf_block.specs.Around.{HoldSamples};
-ghost use Rattle.bf_block.specs.Block.{IsModels, kept_block, stepped_block, map_at, after_regrid};
+ghost use Rattle.bf_block.specs.Block.{IsModels, initial_block, kept_block, stepped_block, map_at, after_regrid};
 
-use crate::{Kept, Memory, Point, Setup};
+use crate::{Kept, Memory, Opening, Point, Setup};
+use bf_case::filled_root;
 use bf_cells::{Cells, Shell};
 use bf_id::Id;
 use std::alloc::Global;
@@ -31,6 +33,24 @@ impl Model for Block {
 }
 
 impl Block {
+    /// A root at the beginning. It takes an opening, so no rank can make one.
+    pub fn initial(alloc: Global, opening: &Opening, root: u32) -> Result<Block, Memory>
+        requires { root < root_count opening.now.roots }
+        ensures { IfOk result (λ block. block ≡ initial_block opening.now root) }
+    {
+        let setup = opening.setup();
+        let cells = filled_root(alloc, setup.case(), root)?;
+        Ok(Block {
+            setup: setup.share()?,
+            point: Point {
+                time: 0,
+                regridded: false,
+            },
+            id: Id::root_of(root),
+            cells,
+        })
+    }
+
     pub fn id(&self) -> Id
         ensures { result ≡ self.now.id }
     {
@@ -80,7 +100,8 @@ impl Block {
         requires time { self.now.point.time < self.now.case.steps }
         requires side { shell.now.side ≡ self.now.cells.side }
         requires samples { HoldSamples self.now.case.roots (map_at self.now.case self.now.point) self.now.id self.now.cells shell.now }
-        ensures { IfOk result (λ block. block ≡ stepped_block self.now shell.now) }
+        ensures block { IfOk result (λ block. block ≡ stepped_block self.now shell.now) }
+        ensures model { IfOk result IsModels }
     {
         let mut cells = Cells::filled(alloc, self.cells.side(), 0)?;
         self.cells.kernel(shell, &mut cells);

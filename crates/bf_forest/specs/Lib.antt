@@ -16,3 +16,4 @@ pub mod PeerLaws
 pub mod GoodLaws
 pub mod StoredLaws
 pub mod PieceLaws
+pub mod Known
