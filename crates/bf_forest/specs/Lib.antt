@@ -17,3 +17,4 @@ pub mod GoodLaws
 pub mod StoredLaws
 pub mod PieceLaws
 pub mod Known
+pub mod ForestLaws
