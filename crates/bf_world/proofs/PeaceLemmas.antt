@@ -291,7 +291,7 @@ module _ {S L M T R : Type 0} (m : Meanings S L M T R) (good : S → Epoch → �
         peaceful = rest.peaceful;
         quiet = ap (λ b. b || list_any tells_of_death events) (tells_none losses run.core event (place run (actor event)) filled lawful.sound lawful.fair core_legal peaceful) ∙ rest.quiet;
         kept = λ before.
-            ap (λ b. restores_from m setup (next_run m setup run event) events (if b then min (before + 1) 4294967295 else before))
+            ap (λ b. restores_from m setup (next_run m setup run event) events (if b then before + 1 else before))
             (not_restore losses run.core event (place run (actor event)) filled lawful.sound lawful.fair core_legal peaceful (may_decide event)
             (is_ripe (happened run.core event (will_be_filled m setup run (actor event)))) (λ ripe. ripe))
             ∙ rest.kept before;

@@ -6,6 +6,7 @@ use Rattle.std.proofs.Math.Nat.{mul-le-mul_left}
 use Rattle.std.proofs.lemmas.Bool.{cases_eq, eqb-true, eq-eqb, ltb-true, ltb-false}
 use Rattle.std.proofs.lemmas.List.{get_or-set_same, get_or-set_other}
 use Rattle.std.proofs.lemmas.List.Sums.{sum_by-le-sum_by}
+use Rattle.std.proofs.lemmas.List.FromFn.{length-range_with_len}
 use Rattle.std.proofs.lemmas.Option.{slice_get_within}
 use Rattle.bf_buddy.specs.Members.{is_member}
 use Rattle.bf_buddy.specs.Losses.{first_lost_of}
@@ -35,9 +36,11 @@ use Rattle.bf_core.specs.Next.{with_stage, may_decide, happened, is_ripe, is_eve
 use Rattle.bf_core.proofs.StageLemmas.{nobody, Someone, nobody_any, is_rank, stage_same, stage_other, stage_dissolved}
 use Rattle.bf_core.proofs.SoundLemmas.{IsSound, first_of_two, acting, in_list, leaving_stage, not_gone, same_tests}
 use Rattle.bf_core.proofs.ArrivalLemmas.{IsFair, is_broken, has_ended, happened_fair}
-use Rattle.bf_core.proofs.LawLemmas.{IsStep, step_of, IsSameEpoch, same_epoch, running_where_ripe, second_of_two}
+use Rattle.bf_core.proofs.LawLemmas.{IsStep, step_of, IsSameEpoch, same_epoch, running_where_ripe, second_of_two, next_settles, next_happens, ripe_decides, unripe_waits}
 use Rattle.bf_world.specs.Course.{peers_at, place_with, place_from, after_send, after_receive}
 use Rattle.bf_world.specs.Runs.{Run, place, begun, last_locals, deaths, opening_run, will_be_filled, run_happened, run_decided, run_settled, next_run, is_legal_in, run_from, is_legal_from, run_after, is_journal}
+use Rattle.bf_world.specs.Worlds.{is_restore, brings_decision, brings_restore, restores_from, restores_in}
+use Rattle.bf_world.proofs.StopLemmas.{no_restore}
 use Rattle.bf_world.specs.Weights.{peers_left, steps_left, left_of, epochs_left, most_left, left_of_rank, total, bound, weight}
 use Rattle.bf_world.proofs.LawfulLemmas.{IsSteady, IsLawful, next_lawful, opening_lawful, after_lawful, core_next}
 use Rattle.bf_world.proofs.PeerLemmas.{peers_rise, peer_is_other}
@@ -179,6 +182,48 @@ restore_missing state event at filled sound fair legal ripe restores =
 
     within : dead.0 < state.ranks
     within = omega (arith, is_rank (λ s. not (is_gone s)) state dead.0 refl (ap not here), sound.size)
+
+-- a restore leaves a member behind
+members_decided : (state : State) (made : Decision) → (made ≡ Restore → Missing state)
+    → (if is_restore true made then 1 else 0) + length (decided state made).epoch.members ≤ length state.epoch.members
+unfolding decided dissolved live_members
+members_decided state (Lose home buddy) missing = omega arith
+members_decided state WantMemory missing = omega arith
+members_decided state Commit missing = at_end (state.epoch.target == state.steps)
+  where
+    at_end : (b : Bool) → 0 + length (if b then ended state outcomes.Finished else committed state).epoch.members ≤ length state.epoch.members
+    at_end true = omega arith
+    at_end false = omega arith
+members_decided state Restore missing =
+    omega (arith, filter_fewer (λ rank. lives (stage state rank)) state.epoch.members (missing refl).0 (missing refl).1.0 (missing refl).1.1)
+
+members_next : (state : State) (event : Event) (at : Place) (filled : Bool) → IsSound state → IsFair state → is_legal state event at ≡ true
+    → (if is_restore (may_decide event && is_ripe (happened state event filled)) (decision (happened state event filled)) then 1 else 0) + length (next state event filled).epoch.members
+    ≤ length state.epoch.members
+members_next state event at filled sound fair legal = by_event (may_decide event) refl
+  where
+    same : length (happened state event filled).epoch.members ≡ length state.epoch.members
+    same = ap (λ epoch. length epoch.members) (same_epoch state event filled).epoch
+
+    quiet : (after : State) → after ≡ happened state event filled → (b : Bool) → b ≡ false → (if b then 1 else 0) + length after.epoch.members ≤ length state.epoch.members
+    quiet after is true still = absurd (cc)
+    quiet after is false _ = omega (arith, same, ap (λ s. length s.epoch.members) is)
+
+    by_ripe : (b : Bool) → is_ripe (happened state event filled) ≡ b
+        → (if is_restore b (decision (happened state event filled)) then 1 else 0) + length (settled (happened state event filled)).epoch.members ≤ length state.epoch.members
+    by_ripe true ripe =
+        let P : State → Type 0 = λ after. (if is_restore true (decision (happened state event filled)) then 1 else 0) + length after.epoch.members ≤ length state.epoch.members in
+        subst P (sym (ripe_decides (happened state event filled) ripe))
+        (omega (arith, same, members_decided (happened state event filled) (decision (happened state event filled)) (restore_missing state event at filled sound fair legal ripe)))
+    by_ripe false unripe = quiet _ (unripe_waits (happened state event filled) unripe) _ (no_restore (decision (happened state event filled)))
+
+    by_event : (b : Bool) → may_decide event ≡ b
+        → (if is_restore (b && is_ripe (happened state event filled)) (decision (happened state event filled)) then 1 else 0) + length (next state event filled).epoch.members
+        ≤ length state.epoch.members
+    by_event true may =
+        let P : State → Type 0 = λ after. (if is_restore (is_ripe (happened state event filled)) (decision (happened state event filled)) then 1 else 0) + length after.epoch.members ≤ length state.epoch.members in
+        subst P (sym (next_settles state event filled may)) (by_ripe (is_ripe (happened state event filled)) refl)
+    by_event false may = quiet _ (next_happens state event filled may) _ (no_restore (decision (happened state event filled)))
 
 -- what is left of a rank's course in an epoch
 
@@ -650,3 +695,40 @@ module _ {S L M T R : Type 0} (m : Meanings S L M T R) (good : S → Epoch → �
   unfolding run_after is_journal
   journal_bounded journal legal =
       lightens (opening_run m setup) journal (opening_lawful m good setup goods stores limits) opening_run_timed legal
+
+  restores_bounded : (run : Run L T) (journal : List Event) (before : ℕ) → IsLawful m good setup goods stores run → is_legal_from m setup run journal ≡ true
+      → restores_from m setup run journal before + length (run_from m setup run journal).core.epoch.members ≤ before + length run.core.epoch.members
+  unfolding is_legal_in brings_restore brings_decision
+  restores_bounded run [] before lawful legal = omega arith
+  restores_bounded run (event ∷ events) before lawful legal =
+      by_restore (brings_restore m setup run event)
+      (subst P (sym (core_next m good setup goods stores run event))
+      (members_next run.core event (place run (actor event)) (will_be_filled m setup run (actor event)) lawful.sound lawful.fair core_legal))
+      (λ count. restores_bounded (next_run m setup run event) events count (next_lawful m good setup goods stores run event lawful first) (second_of_two (is_legal_in m setup run event) _ legal))
+    where
+      first : is_legal_in m setup run event ≡ true
+      first = first_of_two (is_legal_in m setup run event) _ legal
+
+      core_legal : is_legal run.core event (place run (actor event)) ≡ true
+      core_legal = first_of_two (is_legal run.core event (place run (actor event))) _ first
+
+      P : State → Type 0
+      P state = (if brings_restore m setup run event then 1 else 0) + length state.epoch.members ≤ length run.core.epoch.members
+
+      by_restore : (b : Bool) → (if b then 1 else 0) + length (next_run m setup run event).core.epoch.members ≤ length run.core.epoch.members
+          → ((count : ℕ) → restores_from m setup (next_run m setup run event) events count + length (run_from m setup (next_run m setup run event) events).core.epoch.members
+          ≤ count + length (next_run m setup run event).core.epoch.members)
+          → restores_from m setup (next_run m setup run event) events (if b then before + 1 else before)
+          + length (run_from m setup (next_run m setup run event) events).core.epoch.members ≤ before + length run.core.epoch.members
+      by_restore true fewer rest = omega (arith, fewer, rest (before + 1))
+      by_restore false same rest = omega (arith, same, rest before)
+
+  opening_members : length (opening_run m setup).core.epoch.members ≡ m.ranks setup
+  unfolding opening_run opening
+  opening_members = length-range_with_len 0 (m.ranks setup)
+
+  -- with each restore a member less is left
+  pub restores_few : (journal : List Event) → is_journal m setup journal ≡ true → restores_in m setup journal + length (run_after m setup journal).core.epoch.members ≤ m.ranks setup
+  unfolding restores_in run_after is_journal
+  restores_few journal legal =
+      omega (arith, restores_bounded (opening_run m setup) journal 0 (opening_lawful m good setup goods stores limits) legal, opening_members)
