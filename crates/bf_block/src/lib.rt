@@ -6,6 +6,7 @@
 
 mod block;
 mod kept;
+pub mod laws;
 mod opening;
 mod point;
 mod setup;

@@ -36,4 +36,9 @@ impl Opening {
         };
         Ok((opening, setup))
     }
+    pub(crate) fn setup(&self) -> &Setup
+        ensures { case_of result.now ≡ self.now }
+    {
+        &self.setup
+    }
 }

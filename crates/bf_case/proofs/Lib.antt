@@ -6,3 +6,8 @@ pub mod ListLemmas
 pub mod SampleLemmas
 pub mod MapLemmas
 pub mod LookupLemmas
+pub mod BoxLemmas
+pub mod Axis
+pub mod RootSteps
+pub mod RootsAround
+pub mod RootModel

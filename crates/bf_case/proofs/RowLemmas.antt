@@ -14,7 +14,7 @@ use Rattle.bf_case.specs.Merging.{merges_within}
 use Rattle.bf_case.specs.Regrid.{regridded_ids, regrid}
 use Rattle.bf_case.specs.Model.{initial, model}
 use Rattle.bf_case.specs.MapText.{grid_text, map_text}
-use Rattle.bf_case.specs.Rows.{full_block, full_block_text, one_drop, one_drop_text, brim_full, brim_full_text, two_levels, two_levels_text, eight_merge, eight_merge_text, seven_wish, seven_wish_text, forced, other_roots, odd_children, wishing, forced_ids, two_roots, three_levels, three_levels_merged, spotted, low_limit, peak_of_level_1, peak_of_level_1_ids, peak_of_level_2, peak_of_level_2_ids, first_child, forced_child, later_children}
+use Rattle.bf_case.specs.Rows.{full_block, full_block_text, one_drop, one_drop_text, brim_full, brim_full_text, two_levels, two_levels_text, eight_merge, eight_merge_text, seven_wish, seven_wish_text, forced, other_roots, odd_children, wishing, forced_ids, two_roots, three_levels, three_levels_merged, spotted, low_limit, peak_of_level_1, peak_of_level_1_ids, peak_of_level_2, peak_of_level_2_ids, first_child, forced_child}
 
 pub full_block_row : map_text (model full_block 0) ≡ full_block_text
 unfolding digits model initial table grid_text map_text

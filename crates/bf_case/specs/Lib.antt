@@ -10,4 +10,6 @@ pub mod Merging
 pub mod Regrid
 pub mod Model
 pub mod MapText
+pub mod Filling
+pub mod Around
 pub mod Rows

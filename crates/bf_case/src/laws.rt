@@ -1,11 +1,13 @@
 //! The laws of maps. Each function does nothing, and its contract is the law.
 
-ghost use Rattle.std.specs.Prelude.{◌≡◌, ◌<◌, ◌≤◌, ◌↔◌, ℕ, true, All, Contains, IsTrue, List, Some};
+ghost use Rattle.std.specs.Prelude.{◌≡◌, ◌+◌, ◌<◌, ◌≤◌, ◌↔◌, ℕ, true, All, Contains, IsTrue, List, Some};
 ghost use Rattle.bf_id.specs.Id.{level_of, root_id, BlockId};
 ghost use Rattle.bf_id.specs.Shape.{root_count};
 ghost use Rattle.bf_id.specs.Tiling.{IsBalanced, Tiles};
 ghost use Rattle.bf_id.specs.declared.shape.Shape.{Shape};
 ghost use Rattle.bf_cells.specs.Grid.{cell_at, table, Grid};
+ghost use Rattle.bf_cells.specs.Kernel.{relaxed_grid};
+ghost use Rattle.bf_case.specs.Around.{walls_around, IsAround};
 ghost use Rattle.bf_case.specs.Case.{IsValid};
 ghost use Rattle.bf_case.specs.Map.{cells_at, ids_of, IsMap, Leaf};
 ghost use Rattle.bf_case.specs.Model.{filled_root, initial, model, model_at, root_ids};
@@ -89,4 +91,14 @@ pub fn a_step_steps_each_leaf()
 pub fn a_root_begins_filled()
     ensures { (c : Case) (root : ℕ) → IsValid c → root < root_count c.roots
         → cells_at (initial c) (root_id root) ≡ Some (filled_root c root).1 }
+{}
+
+/// A step of a root is the kernel between the walls around it, where all cells meant are those of the model: the
+/// root's own, and those of the roots across its faces.
+pub fn a_root_steps_between_its_walls()
+    ensures { (c : Case) (time root : ℕ) (grid : ℕ → Grid)
+        → IsValid c → c.levels ≡ 0 → root < root_count c.roots
+        → ((k : ℕ) → IsAround c.roots root k → cells_at (model c time) (root_id k) ≡ Some (grid k))
+        → cells_at (model c (time + 1)) (root_id root)
+        ≡ Some (relaxed_grid (grid root) (walls_around c.roots c.side grid root)) }
 {}

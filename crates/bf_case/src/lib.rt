@@ -6,12 +6,15 @@
 #![tactic(auto)]
 
 mod case;
-mod items;
+mod filling;
 pub mod laws;
 mod map;
+mod neighbours;
 pub mod rows;
 mod validity;
 
 pub use case::{Case, Fill};
-pub use items::Items;
+pub use filling::filled_root;
+pub use bf_items::Items;
 pub use map::Map;
+pub use neighbours::{RootCells, surround};

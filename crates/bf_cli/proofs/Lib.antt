@@ -1,6 +1,4 @@
-pub mod Axis
 pub mod RootSteps
-pub mod RootsAround
 pub mod StepLoop
 pub mod Front
 pub mod Lines
@@ -9,5 +7,5 @@ pub mod FillLines
 pub mod Texts
 pub mod PageLemmas
 pub mod RunLoop
-pub mod BoxLemmas
+pub mod RootLists
 pub mod AnswerLemmas

@@ -1,53 +1,29 @@
 -- The loop over the steps of a case of one level.
-use Rattle.std.proofs.Common.{◌≡◌, ℕ, ◌+◌, List, ◌++◌, length, map, take, drop, get_or, refl, sym, ◌∙◌, ap, subst, arith}
+use Rattle.std.proofs.Common.{◌≡◌, ℕ, ◌+◌, List, ◌++◌, length, map, take, drop, refl, sym, ◌∙◌, ap, arith}
 use Rattle.std.specs.List.{range_with_len}
-use Rattle.std.proofs.Math.Numerals.{add-one}
 use Rattle.std.proofs.lemmas.List.{length-map, get_or-map}
 use Rattle.std.proofs.Math.Seq.{take-append_seam}
-use Rattle.std.proofs.lemmas.List.Elements.{Contains-get_or}
 use Rattle.std.proofs.lemmas.List.FromFn.{length-map-range_with_len, get_or-map-range_with_len, fill_by_all}
-use Rattle.bf_id.specs.Id.{root_id, level_of}
+use Rattle.bf_id.specs.Id.{root_id}
 use Rattle.bf_id.specs.Shape.{root_count}
-use Rattle.bf_cells.specs.Grid.{cell_at}
 use Rattle.bf_cells.proofs.GridLemmas.{side-table}
 use Rattle.bf_case.specs.declared.case.Case.{Case}
 use Rattle.bf_case.specs.Case.{IsValid}
 use Rattle.bf_case.specs.Map.{Leaf, ids_of}
-use Rattle.bf_case.specs.Sample.{sample, cell_corner}
-use Rattle.bf_case.specs.Stencil.{stencil}
 use Rattle.bf_case.specs.Model.{initial, model}
-use Rattle.bf_case.proofs.SampleLemmas.{own_sample}
-use Rattle.bf_case.proofs.MapLemmas.{IsRootMap-model, regridded_same}
-use Rattle.bf_cli.specs.Roots.{AreRootIds, HasSides, grid_at, nothing, blank_root, blank_roots, stepped_roots}
-use Rattle.bf_cli.proofs.RootSteps.{SamplesRoots, roots_are, stencil_of_roots}
-
-pub roots_of_model : (c : Case) (time : ℕ) → IsValid c → c.levels ≡ 0 → AreRootIds c.roots (model c time)
-roots_of_model c time valid flat = (IsRootMap-model c time valid flat).roots
+use Rattle.bf_case.specs.Around.{AreRootIds, grid_at, nothing}
+use Rattle.bf_case.proofs.RootModel.{model_next, roots_of_model, samples_of_model, side_in_model}
+use Rattle.bf_cli.specs.Roots.{HasSides, blank_root, blank_roots, stepped_roots}
+use Rattle.bf_cli.proofs.RootSteps.{stencil_of_roots}
 
 pub sides_of_model : (c : Case) (time : ℕ) → IsValid c → c.levels ≡ 0 → HasSides (model c time) c.side
-sides_of_model c time valid flat k below = ((IsRootMap-model c time valid flat).map.cells k nothing below).fits
-
--- each root's own cells are what the model samples there
-samples_of_model : (c : Case) (time : ℕ) → IsValid c → c.levels ≡ 0 → SamplesRoots c.roots c.side (model c time)
-samples_of_model c time valid flat =
-    let leaves = model c time in
-    let is = (IsRootMap-model c time valid flat).map in
-    let are = roots_are c.roots leaves (roots_of_model c time valid flat) in
-    record {
-      sides = λ k below. sides_of_model c time valid flat k (omega (arith, are.0));
-      own = λ k x y z below x_in y_in z_in.
-          let leaf = get_or leaves k nothing in
-          subst (λ i. sample c.roots c.side leaves (level_of i) (cell_corner c.roots c.side i x y z) ≡ cell_at leaf.1 x y z) (are.1 k nothing below)
-          (own_sample c.roots c.side leaves leaf x y z (omega (arith, x_in)) is (Contains-get_or leaves k nothing (omega (arith, are.0))) x_in y_in z_in);
-    }
+sides_of_model = side_in_model
 
 -- a step of the roots leads to the model one step later
 pub next_of_model : (c : Case) (time : ℕ) → IsValid c → c.levels ≡ 0 → stepped_roots c.roots (model c time) ≡ model c (time + 1)
-unfolding model
 next_of_model c time valid flat =
-    rw add-one (
     sym (stencil_of_roots c.roots c.side (model c time) valid.sized.shape (samples_of_model c time valid flat) (roots_of_model c time valid flat))
-    ∙ ap (stencil c.roots c.side) (sym (regridded_same c time (model c time) flat (IsRootMap-model c time valid flat))))
+    ∙ sym (model_next c time valid flat)
 
 -- the first map
 pub first_of_model : (c : Case) → initial c ≡ model c 0

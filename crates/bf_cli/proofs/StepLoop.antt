@@ -9,8 +9,9 @@ use Rattle.bf_id.specs.Id.{BlockId, root_id}
 use Rattle.bf_id.specs.Shape.{root_count}
 use Rattle.bf_cells.specs.Grid.{Grid}
 use Rattle.bf_case.specs.Map.{Leaf}
-use Rattle.bf_cli.specs.Roots.{AreRootIds, HasSides, nothing, stepped_root, stepped_roots}
-use Rattle.bf_cli.proofs.RootSteps.{roots_are}
+use Rattle.bf_case.specs.Around.{AreRootIds, nothing}
+use Rattle.bf_case.proofs.RootSteps.{roots_are}
+use Rattle.bf_cli.specs.Roots.{HasSides, stepped_root, stepped_roots}
 
 -- the roots below this one are stepped, and the others are as they were
 pub record Stepped (shape : Shape) (leaves begun next : List Leaf) (root : ℕ) : Type 0 where
@@ -62,3 +63,8 @@ side_of_next shape leaves begun next root side old ids sides below so_far was =
     let old_is : old ≡ get_or next root nothing = get_or_read next root old inside was nothing in
     ap (λ (leaf : Leaf). leaf.1.side) (sym was ∙ old_is ∙ so_far.rest root (omega arith))
     ∙ sides root (omega (arith, (roots_are shape begun ids).0))
+
+-- a leaf that was read has cells of the side that all have
+pub side_of_read : (leaves : List Leaf) (root side : ℕ) (leaf : Leaf) → HasSides leaves side → root < length leaves → leaf ≡ get_or leaves root leaf → leaf.1.side ≡ side
+side_of_read leaves root side leaf sides inside was =
+    ap (λ (l : Leaf). l.1.side) (get_or_read leaves root leaf inside was nothing) ∙ sides root inside

@@ -1,6 +1,5 @@
 pub mod Roots
 pub mod Reader
 pub mod Page
-pub mod Filling
 pub mod Answers
 pub mod Told

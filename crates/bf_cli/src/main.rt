@@ -7,8 +7,6 @@
 #![tactic(auto)]
 
 mod answer;
-mod filling;
-mod neighbours;
 mod page;
 mod plain;
 mod printer;

@@ -2,12 +2,11 @@
 ghost use Rattle.std.specs.Prelude.{◌≡◌, ℕ, ◌+◌, ◌%◌, ◌<◌, ◌≤◌, length, IfOk};
 ghost use Rattle.bf_id.specs.Shape.{IsShape, root_count};
 ghost use Rattle.bf_case.specs.Case.{IsValid};
-ghost use Rattle.bf_case.specs.Model.{model};
-ghost use Rattle.bf_cli.specs.Roots.{stepped_root, blank_roots, stepped_roots, HasSides, AreRootIds};
+ghost use Rattle.bf_case.specs.Around.{AreRootIds};
+ghost use Rattle.bf_case.specs.Model.{initial, model};
+ghost use Rattle.bf_cli.specs.Roots.{stepped_root, blank_roots, stepped_roots, HasSides};
 
-use crate::filling::filled_roots;
-use crate::neighbours::surround;
-use bf_case::{Case, Items, Map};
+use bf_case::{Case, Items, Map, filled_root, surround};
 use bf_cells::{Cells, Shell};
 use bf_edge::Memory;
 use bf_id::{Id, Shape};
@@ -24,7 +23,7 @@ fn step_root(shape: Shape, leaves: &[(Id, Cells)], root: usize, shell: &mut Shel
     ensures cells { into.new ≡ (stepped_root shape leaves.now root).1 }
     ensures side { shell.new.side ≡ shell.old.side }
 {
-    surround(shell, shape, leaves, root);
+    surround(shell, shape, &leaves, root);
     let (_, own) = &leaves[root];
     own.kernel(shell, into);
 }
@@ -43,6 +42,19 @@ fn step(shape: Shape, leaves: &[(Id, Cells)], shell: &mut Shell, next: &mut [(Id
         let (_, into) = &mut next[root];
         step_root(shape, leaves, root, shell, into);
     }
+}
+
+/// The roots in their order, with their cells at the beginning.
+fn filled_roots(alloc: Global, case: &Case) -> Result<Vec<(Id, Cells)>, Memory>
+    requires { IsValid case.now }
+    ensures { IfOk result (λ leaves. leaves.items ≡ initial case.now) }
+{
+    let count = case.root_count();
+    let mut leaves = Vec::with_capacity(alloc, count as usize)?;
+    for root in 0..count {
+        leaves.push((Id::root_of(root), filled_root(alloc, case, root)?))?;
+    }
+    Ok(leaves)
 }
 
 /// A map of the roots with cells of one value, to be written over.

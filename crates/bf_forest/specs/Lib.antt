@@ -5,8 +5,16 @@ pub mod Goods
 pub mod StepLaws
 pub mod PlainRounds
 pub mod Hearing
+pub mod SeatLaws
+pub mod StageLaws
+pub mod NextLaws
+pub mod Leaves
+pub mod LeafLaws
+pub mod Places
 pub mod ReadLaws
 pub mod PeerLaws
 pub mod GoodLaws
 pub mod StoredLaws
 pub mod PieceLaws
+pub mod Known
+pub mod ForestLaws

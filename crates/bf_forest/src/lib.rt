@@ -2,6 +2,9 @@
 //! snapshot at the end of an epoch, which each keeps for itself and for the member whose buddy it is.
 #![tactic(auto)]
 
+mod blocks;
+mod calls;
+mod known;
 mod local;
 mod message;
 mod stage;

@@ -35,7 +35,7 @@ found_has {L = L} P (member ∷ members) (x ∷ locals) rank local each its =
     at later true here = subst P (same x local here) (All-head P x locals each)
     at later false there = later there
 
-all_together : {L I : Type 0} (P : I → Type 0) (items : L → List I) (locals : List L) → All (λ local. All P (items local)) locals → All P (flat_map items locals)
+pub all_together : {L I : Type 0} (P : I → Type 0) (items : L → List I) (locals : List L) → All (λ local. All P (items local)) locals → All P (flat_map items locals)
 all_together P items [] each = All-nil P
 all_together P items (local ∷ locals) each =
     All-append P (items local) (flat_map items locals) (All-head (λ l. All P (items l)) local locals each)

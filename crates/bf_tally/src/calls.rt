@@ -5,7 +5,8 @@ ghost use Rattle.bf_tally.specs.Meanings.{told, heard_of, ended, restored};
 use crate::items::{copied, joined, raised, total};
 use crate::{Item, Stage, TallyLocal, TallyMessage};
 use bf_buddy::Members;
-use bf_parts::{Items, Side, gives, source_of};
+use bf_items::Items;
+use bf_parts::{Side, gives, source_of};
 use bf_program::Memory;
 use std::alloc::Global;
 

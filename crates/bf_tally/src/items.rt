@@ -2,7 +2,7 @@ ghost use Rattle.std.specs.Prelude.{◌≡◌, [], ◌∷◌, ◌++◌, IfOk};
 ghost use Rattle.bf_tally.specs.Totals.{total, raised};
 
 use crate::Item;
-use bf_parts::Items;
+use bf_items::Items;
 use bf_program::Memory;
 use std::alloc::Global;
 

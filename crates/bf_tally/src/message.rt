@@ -1,5 +1,5 @@
 use crate::Item;
-use bf_parts::Items;
+use bf_items::Items;
 
 /// What one rank tells another: a sum, and the items of a snapshot.
 #[derive(Drop)]

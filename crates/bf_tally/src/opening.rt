@@ -5,7 +5,8 @@ ghost use Rattle.bf_tally.specs.Meanings.{first_items, opened};
 use crate::items::one;
 use crate::{Item, TallyLocal, TallySetup};
 use bf_buddy::Members;
-use bf_parts::{Items, Side};
+use bf_items::Items;
+use bf_parts::Side;
 use bf_program::Memory;
 use std::alloc::Global;
 

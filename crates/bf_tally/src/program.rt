@@ -3,7 +3,7 @@ use crate::peers::peers_of;
 use crate::stage::{rounds, stage_of};
 use crate::{Item, Stage, TallyLocal, TallyMessage, TallySetup};
 use bf_buddy::Members;
-use bf_parts::Items;
+use bf_items::Items;
 use bf_program::{Epoch, Measure, Memory, RankProgram, target_of};
 use std::alloc::Global;
 use std::mem;
@@ -130,7 +130,7 @@ impl RankProgram for Tally {
     }
 
     fn filled(local: &TallyLocal) -> bool {
-        !local.spare.own.as_slice().is_empty()
+        !local.spare.own.is_empty()
     }
 
     fn parcel(local: &mut TallyLocal) -> Items<Item> {
@@ -154,7 +154,7 @@ impl RankProgram for Tally {
 
     fn measure(msg: &TallyMessage) -> Measure {
         Measure {
-            blocks: (msg.items.as_slice().len() % 4294967296) as u32,
+            blocks: (msg.items.len() % 4294967296) as u32,
             sum: u64::from(msg.total),
         }
     }

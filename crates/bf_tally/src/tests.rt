@@ -5,7 +5,8 @@ use crate::calls::{add_up, go_back, hear, snap, told};
 use crate::peers::peers_of;
 use crate::{Item, Stage, Tally, TallyLocal, TallyMessage, TallySetup, opened};
 use bf_buddy::Members;
-use bf_parts::{Items, Side};
+use bf_items::Items;
+use bf_parts::Side;
 use bf_program::{Epoch, Measure, Memory, RankProgram};
 use std::alloc::Global;
 use std::process::Abort;
@@ -90,18 +91,18 @@ fn value_at(items: &Items<Item>, place: usize) -> Option<u32> {
 
 // The asserts stand in small functions, since their proofs take all that is known before them.
 fn expect_one(rt: &impl Abort, items: &Items<Item>, value: u32) {
-    assert_eq!(rt; items.as_slice().len(), 1);
+    assert_eq!(rt; items.len(), 1);
     assert_eq!(rt; value_at(items, 0), Some(value));
 }
 
 fn expect_two(rt: &impl Abort, items: &Items<Item>, first: u32, second: u32) {
-    assert_eq!(rt; items.as_slice().len(), 2);
+    assert_eq!(rt; items.len(), 2);
     assert_eq!(rt; value_at(items, 0), Some(first));
     assert_eq!(rt; value_at(items, 1), Some(second));
 }
 
 fn expect_none(rt: &impl Abort, items: &Items<Item>) {
-    assert_eq!(rt; items.as_slice().len(), 0);
+    assert_eq!(rt; items.len(), 0);
 }
 
 fn expect_filled(rt: &impl Abort, local: &TallyLocal, filled: bool) {

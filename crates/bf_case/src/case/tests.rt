@@ -1,5 +1,6 @@
 use super::{Case, Fill};
-use crate::items::Items;
+use crate::filling::filled_root;
+use bf_items::Items;
 use bf_id::Shape;
 use std::alloc::{AllocError, Global};
 use std::test::Fail;
@@ -139,5 +140,28 @@ fn lists_fit_the_case(rt: HostRuntime) -> Result<(), Fail> {
     let mut case = numbered(rt.alloc(), LEAST);
     case.order = Items::of(vec![in rt.alloc(); 0, 1]?);
     assert!(rt; !case.valid());
+    Ok(())
+}
+
+#[test]
+fn a_fill_spans_two_roots(rt: HostRuntime) -> Result<(), Fail> {
+    let alloc = rt.alloc();
+    let fill = Fill {
+        low: [1, 0, 0],
+        high: [2, 1, 1],
+        value: 8,
+    };
+    let mut case = numbered(alloc, LEAST);
+    case.fills = Items::of(vec![in alloc; fill]?);
+    assert!(rt; case.valid());
+    for root in 0..case.root_count() {
+        let cells = filled_root(alloc, &case, root)?;
+        let want = if root == 0 {
+            [0, 8, 0, 8, 0, 8, 0, 8]
+        } else {
+            [8, 0, 8, 0, 8, 0, 8, 0]
+        };
+        assert_eq!(rt; cells.values(), want.as_slice());
+    }
     Ok(())
 }

@@ -1,6 +1,6 @@
 use Rattle.std.proofs.Common.{◌∙◌, arith}
 use Rattle.bf_cli.specs.Roots.{blank_root}
-use Rattle.bf_cli.proofs.BoxLemmas.{push_fn, root_is_blank, all_blank}
+use Rattle.bf_cli.proofs.RootLists.{push_fn, root_is_blank, all_blank}
 use Rattle.bf_cli.proofs.run.blank_roots.Goals as goal
 
 pub loop-root-preserved : goal.loop-root-preserved

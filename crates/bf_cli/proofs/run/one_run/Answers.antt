@@ -1,7 +1,8 @@
 use Rattle.std.proofs.Common.{◌≡◌, ◌∙◌, refl, ap, arith}
 use Rattle.bf_cells.specs.Shell.{Walls}
+use Rattle.bf_case.proofs.RootModel.{roots_of_model}
 use Rattle.bf_cli.specs.Roots.{stepped_roots}
-use Rattle.bf_cli.proofs.RunLoop.{first_of_model, roots_of_blank, sides_of_blank, roots_from, sides_from, roots_of_model, sides_of_model, next_of_model, items_written}
+use Rattle.bf_cli.proofs.RunLoop.{first_of_model, roots_of_blank, sides_of_blank, roots_from, sides_from, sides_of_model, next_of_model, items_written}
 use Rattle.bf_cli.proofs.run.one_run.Goals as goal
 
 pub loop-time-init : goal.loop-time-init

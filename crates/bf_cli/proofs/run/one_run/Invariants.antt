@@ -1,6 +1,7 @@
 use Rattle.std.proofs.Common.{◌≡◌}
 use Rattle.bf_case.specs.Model.{model}
-use Rattle.bf_cli.specs.Roots.{AreRootIds, HasSides}
+use Rattle.bf_case.specs.Around.{AreRootIds}
+use Rattle.bf_cli.specs.Roots.{HasSides}
 use Rattle.bf_cli.proofs.run.one_run.Given as goal
 
 abbrev pub invariant-loop-time : goal.invariant-loop-time

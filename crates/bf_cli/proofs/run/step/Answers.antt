@@ -1,5 +1,5 @@
 use Rattle.std.proofs.Common.{refl, sym, subst, ◌∙◌, arith}
-use Rattle.bf_cli.proofs.RootSteps.{roots_are}
+use Rattle.bf_case.proofs.RootSteps.{roots_are}
 use Rattle.bf_cli.proofs.StepLoop.{Stepped, Stepped-none, Stepped-more, Stepped-all, side_of_next}
 use Rattle.bf_cli.proofs.run.step.Goals as goal
 

@@ -1,0 +1,67 @@
+-- What lies around a root, where the leaves are the roots: each is named by its number, where x runs fastest, then y, then z.
+use Rattle.std.specs.Prelude.{◌≡◌, ◌⊎◌, ℕ, ◌+◌, ◌-◌, ◌*◌, ◌/◌, ◌%◌, ◌==◌, if◌then◌else◌, List, [], Option, Some, None}
+use Rattle.std.specs.List.{slice_index_or}
+use Rattle.bf_id.specs.declared.shape.Shape.{Shape}
+use Rattle.bf_id.specs.declared.face.Face.{Face}
+use Rattle.bf_id.specs.declared.face.Face.TheVariants.{XLow, XHigh, YLow, YHigh, ZLow, ZHigh}
+use Rattle.bf_id.specs.Face.{number_of, opposite_of}
+use Rattle.bf_id.specs.Id.{root_id}
+use Rattle.bf_cells.specs.Grid.{Grid}
+use Rattle.bf_cells.specs.Shell.{Walls, face_values}
+use Rattle.bf_case.specs.Map.{Leaf, ids_of}
+use Rattle.bf_case.specs.Model.{root_ids}
+
+-- the root so many numbers before, or none where this root is the first of its row
+abbrev pub place_before : ℕ → ℕ → ℕ → Option ℕ
+place_before at k step = if at == 0 then None else Some (k - step)
+
+-- the root so many numbers after, or none where this root is the last of its row
+abbrev pub place_after : ℕ → ℕ → ℕ → ℕ → Option ℕ
+place_after at count k step = if at + 1 == count then None else Some (k + step)
+
+-- the root across a face, or none where the face lies at the domain's edge
+abbrev pub across : Shape → ℕ → Face → Option ℕ
+across shape k XLow = place_before (k % shape.nx) k 1
+across shape k XHigh = place_after (k % shape.nx) shape.nx k 1
+across shape k YLow = place_before (k / shape.nx % shape.ny) k shape.nx
+across shape k YHigh = place_after (k / shape.nx % shape.ny) shape.ny k shape.nx
+across shape k ZLow = place_before (k / shape.nx / shape.ny) k (shape.nx * shape.ny)
+across shape k ZHigh = place_after (k / shape.nx / shape.ny) shape.nz k (shape.nx * shape.ny)
+
+-- the root itself, or a root across one of its faces
+abbrev pub IsAround : Shape → ℕ → ℕ → Type 0
+IsAround shape k j = (j ≡ k) ⊎ ((face : Face) × (across shape k face ≡ Some j))
+
+-- the square next to a root's face: the opposite face of the root across, or the root's own face
+abbrev pub wall_from : (ℕ → Grid) → ℕ → Option ℕ → Face → List ℕ
+wall_from grid k None face = face_values (grid k) (number_of face)
+wall_from grid k (Some j) face = face_values (grid j) (number_of (opposite_of face))
+
+-- all that lies next to a root
+unfoldable pub walls_around : Shape → ℕ → (ℕ → Grid) → ℕ → Walls
+walls_around shape edge grid k = record {
+  side = edge;
+  x_low = wall_from grid k (across shape k XLow) XLow;
+  x_high = wall_from grid k (across shape k XHigh) XHigh;
+  y_low = wall_from grid k (across shape k YLow) YLow;
+  y_high = wall_from grid k (across shape k YHigh) YHigh;
+  z_low = wall_from grid k (across shape k ZLow) ZLow;
+  z_high = wall_from grid k (across shape k ZHigh) ZHigh;
+}
+
+-- the cells of this root can be asked for, and have this side
+pub record IsGiven (has : ℕ → Type 0) (grid : ℕ → Grid) (side k : ℕ) : Type 0 where
+  pub there : has k
+  pub fits : (grid k).side ≡ side
+
+-- the leaves are the roots in their order
+abbrev pub AreRootIds : Shape → List Leaf → Type 0
+AreRootIds shape leaves = ids_of leaves ≡ root_ids shape
+
+-- past the end of a list of leaves
+abbrev pub nothing : Leaf
+nothing = (root_id 0, record { side = 0; values = [] })
+
+-- the cells of the leaf at a place of the list
+abbrev pub grid_at : List Leaf → ℕ → Grid
+grid_at leaves k = (slice_index_or leaves k nothing).1
