@@ -12,3 +12,4 @@ pub mod Leaves
 pub mod LeafLaws
 pub mod Places
 pub mod Known
+pub mod Ready

@@ -8,6 +8,7 @@ mod known;
 mod local;
 mod message;
 mod stage;
+mod step;
 
 pub use local::ForestLocal;
 pub use message::ForestMessage;

@@ -1,0 +1,51 @@
+//! A step of a rank's blocks.
+ghost use Rattle.std.specs.Prelude.{◌≡◌, ℕ, ◌+◌, ◌<◌, ◌≤◌, ◌++◌, All, length, map, take, IfOk, OnOk};
+ghost use Rattle.bf_case.specs.Model.{model};
+ghost use Rattle.bf_block.specs.Block.{kept_block};
+ghost use Rattle.bf_block.specs.Setup.{case_of};
+ghost use Rattle.bf_forest.specs.Gathered.{advanced, stepped_among};
+ghost use Rattle.bf_forest.specs.Known.{CanAdvance};
+ghost use Rattle.bf_forest.specs.Ready.{CanBeKept, IsReady};
+
+use crate::ForestLocal;
+use crate::known::Known;
+use bf_block::{Block, Memory, Setup};
+use bf_case::surround;
+use bf_cells::Shell;
+use bf_parts::Items;
+use std::alloc::Global;
+
+// The own blocks after their regrid, and then the others.
+fn kept_first(alloc: Global, own: Items<Block>, others: Items<Block>) -> Result<Vec<Block>, Memory>
+    requires { All CanBeKept own }
+    ensures { IfOk result (λ all. all.items ≡ map kept_block own ++ others) }
+{
+    let mut all = Vec::with_capacity(alloc, own.count())?;
+    for block in own.into_vec() {
+        all.push(block.kept())?;
+    }
+    all.append(&mut others.into_vec())?;
+    Ok(all)
+}
+
+// The first of the known blocks, one step later. One shell serves them all.
+fn advance(alloc: Global, setup: &Setup, known: &Known, count: usize) -> Result<Vec<Block>, Memory>
+    ghost time: { ℕ }
+    requires { CanAdvance (case_of setup.now) time known.now count }
+    ensures { IfOk result (λ blocks. blocks.items
+        ≡ map (advanced (model (case_of setup.now) (time + 1))) (take count known.now.blocks.items)) }
+{
+    let mut shell = Shell::blank(alloc, setup.side())?;
+    let mut stepped = Vec::with_capacity(alloc, count)?;
+    for place in 0..count {
+        let block = &known.blocks[place];
+        surround(
+            &mut shell,
+            setup.roots(),
+            known,
+            block.id().root() as usize,
+        );
+        stepped.push(block.advanced(alloc, &shell)?)?;
+    }
+    Ok(stepped)
+}
