@@ -1,2 +1,3 @@
 pub mod PlaceSteps
 pub mod Stepping
+pub mod Readying

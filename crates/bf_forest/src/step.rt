@@ -1,5 +1,5 @@
 //! A step of a rank's blocks.
-ghost use Rattle.std.specs.Prelude.{◌≡◌, ℕ, ◌+◌, ◌<◌, ◌≤◌, ◌++◌, All, length, map, take, IfOk, OnOk};
+ghost use Rattle.std.specs.Prelude.{◌≡◌, ℕ, ◌+◌, [], ◌++◌, All, length, map, take, IfOk, OnOk};
 ghost use Rattle.bf_case.specs.Model.{model};
 ghost use Rattle.bf_block.specs.Block.{kept_block};
 ghost use Rattle.bf_block.specs.Setup.{case_of};
@@ -48,4 +48,18 @@ fn advance(alloc: Global, setup: &Setup, known: &Known, count: usize) -> Result<
         stepped.push(block.advanced(alloc, &shell)?)?;
     }
     Ok(stepped)
+}
+
+/// A step of a rank's blocks, of which all others that it has heard of are copies. They are let go.
+pub fn step(alloc: Global, setup: &Setup, local: &mut ForestLocal) -> Result<(), Memory>
+    ghost time: { ℕ }
+    requires { IsReady (case_of setup.now) time local.old }
+    ensures { OnOk result (local.new ≡ (record local.old {
+        blocks = stepped_among (case_of setup.now) (local.old.blocks ++ local.old.heard) local.old.blocks; heard = [] })) }
+{
+    let count = local.blocks.count();
+    let blocks = kept_first(alloc, local.blocks.moved(), local.heard.moved())?;
+    let known = Known::of(alloc, setup.root_count() as usize, blocks)?;
+    local.blocks = Items::of(advance(alloc, setup, &known, count)?);
+    Ok(())
 }
