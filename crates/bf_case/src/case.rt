@@ -1,4 +1,4 @@
-use crate::items::Items;
+use bf_items::Items;
 use crate::validity::{are_deaths, are_fills, are_ranks, are_rising, cells_of, is_shape, roots_of};
 use bf_id::Shape;
 

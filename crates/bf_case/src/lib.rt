@@ -7,7 +7,6 @@
 
 mod case;
 mod filling;
-mod items;
 pub mod laws;
 mod map;
 mod neighbours;
@@ -16,6 +15,6 @@ mod validity;
 
 pub use case::{Case, Fill};
 pub use filling::filled_root;
-pub use items::Items;
+pub use bf_items::Items;
 pub use map::Map;
 pub use neighbours::{RootCells, surround};

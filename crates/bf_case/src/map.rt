@@ -1,4 +1,4 @@
-use crate::items::Items;
+use bf_items::Items;
 use bf_cells::Cells;
 use bf_id::Id;
 

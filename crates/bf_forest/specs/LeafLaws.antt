@@ -13,7 +13,8 @@ use Rattle.bf_id.proofs.Boxes.{id_eq_is_equal}
 use Rattle.bf_case.specs.declared.case.Case.{Case}
 use Rattle.bf_case.specs.Map.{Leaf, cells_at}
 use Rattle.bf_case.specs.Model.{model}
-use Rattle.bf_case.proofs.MapLemmas.{IsRootMap-model}
+use Rattle.bf_case.proofs.RootModel.{roots_of_model}
+use Rattle.bf_case.proofs.RootSteps.{roots_are}
 use Rattle.bf_program.specs.declared.epoch.Epoch.{Epoch}
 use Rattle.bf_block.specs.declared.setup.Setup.{Setup}
 use Rattle.bf_block.specs.Setup.{case_of, every_setup_runs}
@@ -29,7 +30,7 @@ use Rattle.bf_forest.specs.Leaves.{times_among, AreLeaves}
 use Rattle.bf_forest.specs.Meanings.{forest_look}
 use Rattle.bf_forest.specs.StageLaws.{time_end}
 use Rattle.bf_forest.specs.Stages.{span, rounds_of, time_at}
-use Rattle.bf_forest.specs.StepLaws.{model_cells, block_root, model_root}
+use Rattle.bf_forest.specs.StepLaws.{model_cells, block_root}
 
 -- a root's id is told by its number
 root_test : (i : BlockId) (k : ℕ) → i ≡ root_id i.root → id_eq i (root_id k) ≡ (i.root == k)
@@ -75,15 +76,14 @@ good_leaves setup epoch round locals good = record { cells = cells; once = each_
     roots : All (λ (b : BlockValue). b.id ≡ root_id b.id.root) blocks
     roots = All-weaker (IsBlockAt c time) (λ (b : BlockValue). b.id ≡ root_id b.id.root) (λ b is. (block_root c time b runs is).0) blocks are
 
-    count : length (model c time) ≡ root_count c.roots
-    count = sym (length-map (model c time) (λ (leaf : Leaf). leaf.0)) ∙ ap length (IsRootMap-model c time runs.valid runs.one_level).roots
-        ∙ length-map-range_with_len root_id 0 (root_count c.roots)
+    leaves : (length (model c time) ≡ root_count c.roots) × ((k : ℕ) (d : Leaf) → k < root_count c.roots → (get_or (model c time) k d).0 ≡ root_id k)
+    leaves = roots_are c.roots (model c time) (roots_of_model c time runs.valid runs.one_level)
 
     each_once : All (λ (leaf : Leaf). times_among blocks leaf.0 ≡ 1) (model c time)
     each_once k d within =
-        let below : k < root_count c.roots = omega (arith, count, within) in
+        let below : k < root_count c.roots = omega (arith, leaves.0, within) in
         let test : nat_lt k (root_count c.roots) ≡ true = grind (arith, nat_tests) in
-        ap (times_among blocks) (model_root c time k d runs below).1
+        ap (times_among blocks) (leaves.1 k d below)
         ∙ counted_by_root blocks k roots
         ∙ held_once forest_look (root_count c.roots) c.shift (rounds_of epoch) epoch round locals good.shared k true test
 

@@ -11,5 +11,11 @@ pub mod NextLaws
 pub mod Leaves
 pub mod LeafLaws
 pub mod Places
+pub mod ReadLaws
+pub mod PeerLaws
+pub mod GoodLaws
+pub mod StoredLaws
+pub mod PieceLaws
 pub mod Known
 pub mod Ready
+pub mod ForestLaws

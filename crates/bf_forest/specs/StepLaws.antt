@@ -17,7 +17,10 @@ use Rattle.bf_case.specs.Sample.{cell_corner}
 use Rattle.bf_case.specs.Stencil.{stencil, stepped_value}
 use Rattle.bf_case.proofs.ListLemmas.{Contains-map}
 use Rattle.bf_case.proofs.LookupLemmas.{cells_at-leaf, leaf_from_cells_at, cells_at-stencil}
-use Rattle.bf_case.proofs.MapLemmas.{regridded_same, IsRootMap, IsRootMap-model}
+use Rattle.bf_case.proofs.MapLemmas.{IsRootMap-model}
+use Rattle.bf_case.proofs.RootModel.{roots_of_model, model_next, cells_of_root}
+use Rattle.bf_case.proofs.RootSteps.{roots_are}
+use Rattle.bf_case.specs.Around.{grid_at, nothing}
 use Rattle.bf_block.specs.declared.point.Point.{Point}
 use Rattle.bf_block.specs.Runs.{CanRun}
 use Rattle.bf_block.specs.Block.{BlockValue, map_at, before_regrid}
@@ -84,46 +87,21 @@ root_cells c time known k runs are has below =
     let found = is_found (map leaf_of known) (root_id k) b.0.cells leaf in
     found_is_models c time known (root_id k) found.0 are found.1 ∙ ap (λ o. Some (cells_or o (grid_with 0 []))) (sym found.1)
 
--- the leaf at a place of the model's map is that root
-pub model_root : (c : Case) (time k : ℕ) (d : Leaf) → CanRun c → k < root_count c.roots
-    → (k < length (model c time)) × ((get_or (model c time) k d).0 ≡ root_id k)
-model_root c time k d runs below =
-    let ids = (IsRootMap-model c time runs.valid runs.one_level).roots in
-    let count : length (model c time) ≡ root_count c.roots =
-    sym (length-map (model c time) (λ (leaf : Leaf). leaf.0)) ∙ ap length ids ∙ length-map-range_with_len root_id 0 (root_count c.roots) in
-    let within : k < length (model c time) = omega arith in (
-      within,
-      sym (get_or-map (λ (leaf : Leaf). leaf.0) (model c time) k d (root_id 0) within)
-      ∙ ap (λ l. get_or l k (root_id 0)) ids
-      ∙ get_or-map-range_with_len root_id 0 (root_count c.roots) k k (root_id 0) below (omega arith),
-    )
-
 -- the blocks make the model's map together
 pub gathered_is_model : (c : Case) (time : ℕ) (known : List BlockValue) → CanRun c → All (IsBlockAt c time) known → HasRoots c known
     → gathered c known ≡ model c time
 unfolding gathered
 gathered_is_model c time known runs are has =
-    let nothing : Leaf = (root_id 0, grid_with 0 []) in
-    let ids = (IsRootMap-model c time runs.valid runs.one_level).roots in
-    let count : length (model c time) ≡ root_count c.roots =
-    sym (length-map (model c time) (λ (leaf : Leaf). leaf.0)) ∙ ap length ids ∙ length-map-range_with_len root_id 0 (root_count c.roots) in
-    sym (fill_by_all (root_among known) (model c time) (root_count c.roots) nothing count (λ k below. same k below nothing))
+    let leaves = model c time in
+    let roots = roots_are c.roots leaves (roots_of_model c time runs.valid runs.one_level) in
+    sym (fill_by_all (root_among known) leaves (root_count c.roots) nothing roots.0 (λ k below. same k below (roots.1 k nothing below)))
   where
-    same : (k : ℕ) → k < root_count c.roots → (d : Leaf) → get_or (model c time) k d ≡ root_among known k
-    same k below d =
-        let is = model_root c time k d runs below in
-        let leaf = get_or (model c time) k d in
-        let its : cells_at (model c time) leaf.0 ≡ Some leaf.1 =
-        cells_at-leaf (model c time) leaf.0 leaf.1 (IsRootMap-model c time runs.valid runs.one_level).map.rising (Contains-get_or (model c time) k d is.0) in
-        let cells : leaf.1 ≡ (root_among known k).1 =
-        some_grid leaf.1 (root_among known k).1 (sym its ∙ ap (cells_at (model c time)) is.1 ∙ root_cells c time known k runs are has below) in
-        λ j. (is.1 j, cells j)
-
-next_model : (c : Case) (time : ℕ) → CanRun c → model c (time + 1) ≡ stencil c.roots c.side (model c time)
-unfolding model
-next_model c time runs =
-    ap (model c) (let e : time + 1 ≡ suc time = omega arith in e)
-    ∙ ap (stencil c.roots c.side) (regridded_same c time (model c time) runs.one_level (IsRootMap-model c time runs.valid runs.one_level))
+    same : (k : ℕ) → k < root_count c.roots → (get_or (model c time) k nothing).0 ≡ root_id k → get_or (model c time) k nothing ≡ root_among known k
+    same k below id =
+        let cells : grid_at (model c time) k ≡ (root_among known k).1 =
+        some_grid (grid_at (model c time) k) (root_among known k).1
+        (sym (cells_of_root c time k runs.valid runs.one_level below) ∙ root_cells c time known k runs are has below) in
+        λ j. (id j, cells j)
 
 -- a block one step later
 advanced_is : (c : Case) (time : ℕ) (b : BlockValue) → CanRun c → IsBlockAt c time b → IsBlockAt c (time + 1) (advanced (stencil c.roots c.side (model c time)) b)
@@ -134,7 +112,7 @@ advanced_is c time b runs is =
     cells_at-stencil c.roots c.side (model c time) b.id b.cells (IsRootMap-model c time runs.valid runs.one_level).map (model_cells c time b is) in
     let point : before_regrid (b.point.time + 1) ≡ before_regrid (time + 1) = ap (λ (p : Point). before_regrid (p.time + 1)) is.at in
     let new : cells_at (map_at c (before_regrid (time + 1))) b.id ≡ Some (cells_or (cells_at after b.id) b.cells) =
-    ap (λ (l : List Leaf). cells_at l b.id) (next_model c time runs) ∙ found ∙ ap (λ o. Some (cells_or o b.cells)) (sym found) in
+    ap (λ (l : List Leaf). cells_at l b.id) (model_next c time runs.valid runs.one_level) ∙ found ∙ ap (λ o. Some (cells_or o b.cells)) (sym found) in
     record {
       of_case = is.of_case;
       at = point;

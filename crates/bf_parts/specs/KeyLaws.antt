@@ -1,10 +1,11 @@
 -- A test of items that is a test of their keys counts the same wherever the same keys are.
 use Rattle.std.proofs.Common.{◌≡◌, ℕ, ◌+◌, ◌<◌, ◌≤◌, Bool, true, false, cond, List, [], ◌∷◌, arith, refl, ap, sym, ◌∙◌}
-use Rattle.std.specs.Prelude.{◌==◌, ◌&&◌, nat_lt, All}
+use Rattle.std.specs.Prelude.{◌==◌, ◌&&◌, nat_lt, map, filter, All}
 use Rattle.std.specs.List.{count_by, sum_by, range_with_len}
 use Rattle.std.proofs.lemmas.Bool.{eqb-true, eq-eqb}
 use Rattle.std.proofs.lemmas.Bool.Decides.{nat_tests}
 use Rattle.std.proofs.lemmas.List.Elements.{All-head, All-tail}
+use Rattle.bf_parts.specs.Bools.{and_false, eqb_swap}
 use Rattle.bf_parts.specs.Counts.{count_cons, held_none, held_cons, sums_same, sum_none, sum_of_both, amount_at, member_once}
 use Rattle.bf_parts.specs.Seats.{range_has, range_rises}
 use Rattle.bf_parts.specs.Shares.{held, once, AreOf}
@@ -97,3 +98,49 @@ whole_counted key test passes count items alike each =
 
     under : (k : ℕ) → k < 0 + count → nat_lt k count ≡ true
     under k low = grind (arith, nat_tests)
+
+pub count_mapped : {X Y : Type 0} (test : Y → Bool) (f : X → Y) (xs : List X) → count_by test (map f xs) ≡ count_by (λ x. test (f x)) xs
+count_mapped test f [] = refl
+count_mapped test f (x ∷ xs) = count_cons test (f x) (map f xs) ∙ ap (λ n. once (test (f x)) + n) (count_mapped test f xs) ∙ sym (count_cons (λ x. test (f x)) x xs)
+
+count_passed : (passes test : ℕ → Bool) (xs : List ℕ) → count_by test (filter passes xs) ≡ count_by (λ x. passes x && test x) xs
+count_passed passes test [] = refl
+count_passed passes test (x ∷ xs) = at (passes x) (count_passed passes test xs) ∙ sym (count_cons (λ y. passes y && test y) x xs)
+  where
+    at : (b : Bool) → count_by test (filter passes xs) ≡ count_by (λ y. passes y && test y) xs
+        → count_by test (cond b (x ∷ filter passes xs) (filter passes xs)) ≡ once (b && test x) + count_by (λ y. passes y && test y) xs
+    at true later = count_cons test x (filter passes xs) ∙ ap (λ n. once (test x) + n) later
+    at false later = later ∙ omega arith
+
+-- of one number each
+counted_at : (passes : ℕ → Bool) (count k : ℕ) (b : Bool) → nat_lt k count ≡ b → count_by (λ j. passes j && (j == k)) (range_with_len 0 count) ≡ once (b && passes k)
+counted_at passes count k true below =
+    let within : k < count = grind (arith, nat_tests) in
+    sums_same (λ j. cond (passes j && (j == k)) 1 0) (amount_at k (once (passes k))) 0 count
+    (λ j low. ap (λ b. cond (passes j && b) 1 0) (eqb_swap j k) ∙ at (passes j) (passes k) (k == j) (λ same. ap passes (eqb-true k j same)))
+    ∙ member_once k (once (passes k)) (range_with_len 0 count) (range_rises count) (range_has count k within)
+  where
+    at : (p q s : Bool) → (s ≡ true → q ≡ p) → cond (p && s) 1 0 ≡ cond s (once q) 0
+    at true q true same = let e : q ≡ true = same refl in rw e refl
+    at true q false same = refl
+    at false q true same = let e : q ≡ false = same refl in rw e refl
+    at false q false same = refl
+counted_at passes count k false above =
+    sums_same (λ j. cond (passes j && (j == k)) 1 0) (λ j. 0) 0 count
+    (λ j low. ap (λ b. cond (passes j && b) 1 0) (other j low) ∙ ap (λ b. cond b 1 0) (and_false (passes j)))
+    ∙ sum_none (range_with_len 0 count)
+  where
+    other : (j : ℕ) → j < 0 + count → (j == k) ≡ false
+    other j low = grind (arith, nat_tests)
+
+-- items made of the keys that a rank owns
+pub keys_made : {I : Type 0} (key : I → ℕ) (make : ℕ → I) (count : ℕ) (owner : ℕ → ℕ) (rank : ℕ) → ((k : ℕ) → key (make k) ≡ k)
+    → AreOf key count owner rank (map make (filter (λ k. owner k == rank) (range_with_len 0 count)))
+unfolding held
+keys_made key make count owner rank made = record {
+  each = λ k.
+      count_mapped (λ item. key item == k) make (filter (λ j. owner j == rank) (range_with_len 0 count))
+      ∙ ap (λ (f : ℕ → ℕ). count_by (λ j. f j == k) (filter (λ j. owner j == rank) (range_with_len 0 count))) (λ i j. made j i)
+      ∙ count_passed (λ j. owner j == rank) (λ j. j == k) (range_with_len 0 count)
+      ∙ counted_at (λ j. owner j == rank) count k (nat_lt k count) refl;
+}

@@ -11,7 +11,7 @@ use Rattle.bf_program.specs.Lockstep.{local_of}
 use Rattle.bf_program.specs.Meanings.{Meanings, Regions}
 use Rattle.bf_program.specs.Restores.{restored_epoch}
 use Rattle.bf_parts.specs.declared.side.Side.{Side}
-use Rattle.bf_parts.specs.Counts.{held_none, held_append, held_together, member_once}
+use Rattle.bf_parts.specs.Counts.{count_append, held_none, held_append, held_together, member_once}
 use Rattle.bf_parts.specs.KeyLaws.{owned_below, same_counted, whole_counted}
 use Rattle.bf_parts.specs.Looks.{Look}
 use Rattle.bf_parts.specs.Programs.{HasParts, HasPieces, IsAlike, Shared}
@@ -82,13 +82,21 @@ module _ {S L M T I B U : Type 0} (m : Meanings S L M T (Side I)) (look : Look L
   of_items : (unit : U) (a b : L) → look.items a ≡ look.items b → times regions (regions.of_local a) unit ≡ times regions (regions.of_local b) unit
   of_items unit a b same = pieces.of_local a unit ∙ ap (count_by (λ item. covers item unit)) same ∙ sym (pieces.of_local b unit)
 
+  of_all : (locals : List L) (unit : U) → times regions (flat_map regions.of_local locals) unit ≡ count_by (λ item. covers item unit) (flat_map look.items locals)
+  of_all [] unit = refl
+  of_all (local ∷ locals) unit =
+      count_append (λ box. regions.holds box unit) (regions.of_local local) (flat_map regions.of_local locals)
+      ∙ ap (λ n. n + times regions (flat_map regions.of_local locals) unit) (pieces.of_local local unit)
+      ∙ ap (λ n. count_by (λ item. covers item unit) (look.items local) + n) (of_all locals unit)
+      ∙ sym (count_append (λ item. covers item unit) (look.items local) (flat_map look.items locals))
+
   module _ (good : S → Epoch → ℕ → List L → Type 0) (shared : (epoch : Epoch) (round : ℕ) (locals : List L) → good setup epoch round locals → Shared m look setup count epoch round locals)
       (alike : (epoch : Epoch) (round : ℕ) (locals : List L) → good setup epoch round locals → All (IsAlike look covers is_under) locals) where
     whole : (epoch : Epoch) (round : ℕ) (locals : List L) (unit : U) → good setup epoch round locals → IsTrue (regions.is_in_domain setup unit)
         → times regions (flat_map regions.of_local locals) unit ≡ 1
     whole epoch round locals unit is_good within =
         let parts = shared epoch round locals is_good in
-        pieces.of_all locals unit
+        of_all locals unit
         ∙ whole_counted look.key (λ item. covers item unit) (λ key. is_under key unit) count (flat_map look.items locals)
         (all_together (λ item. covers item unit ≡ is_under (look.key item) unit) look.items locals
         (All-weaker (IsAlike look covers is_under) (λ local. All (λ item. covers item unit ≡ is_under (look.key item) unit) (look.items local)) (λ local is. is.items unit) locals

@@ -55,7 +55,6 @@ pub record HasPieces {S L M T I B U : Type 0} (m : Meanings S L M T (Side I)) (l
   pub of_local : (local : L) (unit : U) → times regions (regions.of_local local) unit ≡ count_by (λ item. covers item unit) (look.items local)
   pub of_saved : (side : Side I) (rank home : ℕ) (unit : U) → times regions (regions.of_saved side rank home) unit ≡ count_by (λ item. covers item unit) (saved_of side rank home)
   pub of_message : (msg : M) (unit : U) → times regions (regions.of_message msg) unit ≡ 0
-  pub of_all : (locals : List L) (unit : U) → times regions (flat_map regions.of_local locals) unit ≡ count_by (λ item. covers item unit) (flat_map look.items locals)
   pub out : (local : L) (epoch : Epoch) (round to : ℕ) → look.items (m.out setup local epoch round to).0 ≡ look.items local
   pub take : (local : L) (epoch : Epoch) (round peer : ℕ) (msg : M) → look.items (m.take setup local epoch round peer msg) ≡ look.items local
   pub finish : (local : L) (epoch : Epoch) (round : ℕ) (unit : U)

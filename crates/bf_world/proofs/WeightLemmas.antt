@@ -41,7 +41,8 @@ use Rattle.bf_world.specs.Runs.{Run, place, begun, last_locals, deaths, opening_
 use Rattle.bf_world.proofs.LawfulLemmas.{IsSteady, IsLawful, next_lawful, after_lawful, core_next}
 use Rattle.bf_world.proofs.PeerLemmas.{peers_rise, peer_is_other}
 use Rattle.bf_world.proofs.PlaceLemmas.{IsPlaced, receives_at}
-use Rattle.bf_world.proofs.RangeLemmas.{sums_less, sums_most, rising_few, filter_fewer, in_filtered, fails_at}
+use Rattle.bf_world.proofs.RangeLemmas.{sums_less, sums_most, rising_few, filter_fewer}
+use Rattle.bf_core.proofs.ListLemmas.{in_filtered, fails_at}
 use Rattle.bf_world.proofs.RunLemmas.{run_more}
 use Rattle.bf_world.proofs.WaitingLemmas.{below_end}
 
@@ -110,7 +111,7 @@ unnot : (b : Bool) → not b ≡ true → b ≡ false
 unnot true still = absurd (cc)
 unnot false _ = refl
 
-someone_dead : (state : State) → is_ripe state ≡ true → IsFair state → decision state ≡ Restore → Someone is_dead state
+pub someone_dead : (state : State) → is_ripe state ≡ true → IsFair state → decision state ≡ Restore → Someone is_dead state
 someone_dead state ripe fair restores =
     by_stage (stage state undone.0) refl
   where

@@ -80,6 +80,13 @@ impl<P: RankProgram> World<P> {
         let _ = &self.setup;
     }
 
+    /// What all ranks know.
+    pub fn setup(&self) -> &P::Setup
+        ensures { result.now ≡ self.now.setup }
+    {
+        &self.setup
+    }
+
     /// The epoch with which the run began.
     pub fn first(&self) -> Epoch
         ensures { result ≡ first_epoch (P.meanings.ranks self.now.setup) (P.meanings.steps self.now.setup) (P.meanings.interval self.now.setup) }

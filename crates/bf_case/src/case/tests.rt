@@ -1,6 +1,6 @@
 use super::{Case, Fill};
 use crate::filling::filled_root;
-use crate::items::Items;
+use bf_items::Items;
 use bf_id::Shape;
 use std::alloc::{AllocError, Global};
 use std::test::Fail;

@@ -1,6 +1,8 @@
-ghost use Rattle.std.specs.Prelude.{◌≡◌, ◌↔◌, List, [], length, IsTrue};
+ghost use Rattle.std.specs.Prelude.{◌≡◌, ◌↔◌, [], length, IsTrue};
 
+use std::alloc::Global;
 use std::marker::Model;
+use std::mem;
 
 /// A list that contracts see as the list of its items, made of a `Vec` and given back without taking memory.
 #[derive(Drop)]
@@ -9,12 +11,23 @@ pub struct Items<T> {
 }
 
 impl<T> Model for Items<T> {
+    ghost use Rattle.std.specs.Prelude.{List};
+
     ghost Value = { List T };
 
     ghost view = { λ l. l.vec.items };
 }
 
 impl<T> Items<T> {
+    /// No items.
+    pub fn new(alloc: Global) -> Self
+        ensures { result ≡ [] }
+    {
+        Items {
+            vec: Vec::new(alloc),
+        }
+    }
+
     /// The list of a vector's items.
     pub fn of(vec: Vec<T>) -> Self
         ensures { result ≡ vec.items }
@@ -42,10 +55,31 @@ impl<T> Items<T> {
         self.vec.is_empty()
     }
 
+    /// The items in their order.
     pub fn as_slice(&self) -> &[T]
         ensures { result.now ≡ self.now }
     {
         self.vec.as_slice()
+    }
+
+    /// Moves the items out.
+    pub fn moved(&mut self) -> Self
+        ensures items { result ≡ self.old }
+        ensures none { self.new ≡ [] }
+    {
+        let empty = Vec::new(*self.vec.allocator());
+        Items {
+            vec: mem::replace(&mut self.vec, empty),
+        }
+    }
+}
+
+impl<T: Drop> Items<T> {
+    /// Lets the items go.
+    pub fn clear(&mut self)
+        ensures { self.new ≡ [] }
+    {
+        self.vec.clear();
     }
 }
 
@@ -61,6 +95,18 @@ mod tests {
         assert_eq!(rt; items.len(), 3);
         assert!(rt; !items.is_empty());
         assert_eq!(rt; items.into_vec().as_slice(), [3, 1, 2].as_slice());
+        Ok(())
+    }
+
+    #[test]
+    fn items_are_moved_out(rt: HostRuntime) -> Result<(), Fail> {
+        let mut items = Items::of(vec![in rt.alloc(); 3u32, 1, 2]?);
+        let moved = items.moved();
+        assert_eq!(rt; moved.as_slice(), [3, 1, 2].as_slice());
+        assert!(rt; items.is_empty());
+        items = moved;
+        items.clear();
+        assert!(rt; items.is_empty());
         Ok(())
     }
 }
