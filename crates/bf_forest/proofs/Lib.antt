@@ -1,3 +1,4 @@
 pub mod PlaceSteps
 pub mod Stepping
 pub mod Readying
+pub mod OpeningSteps

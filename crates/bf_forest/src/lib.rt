@@ -7,9 +7,11 @@ mod calls;
 mod known;
 mod local;
 mod message;
+mod opening;
 mod stage;
 mod step;
 
 pub use local::ForestLocal;
 pub use message::ForestMessage;
+pub use opening::load;
 pub use stage::Stage;

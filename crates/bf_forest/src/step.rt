@@ -20,7 +20,7 @@ fn kept_first(alloc: Global, own: Items<Block>, others: Items<Block>) -> Result<
     requires { All CanBeKept own }
     ensures { IfOk result (λ all. all.items ≡ map kept_block own ++ others) }
 {
-    let mut all = Vec::with_capacity(alloc, own.count())?;
+    let mut all = Vec::with_capacity(alloc, own.len())?;
     for block in own.into_vec() {
         all.push(block.kept())?;
     }
@@ -57,7 +57,7 @@ pub fn step(alloc: Global, setup: &Setup, local: &mut ForestLocal) -> Result<(),
     ensures { OnOk result (local.new ≡ (record local.old {
         blocks = stepped_among (case_of setup.now) (local.old.blocks ++ local.old.heard) local.old.blocks; heard = [] })) }
 {
-    let count = local.blocks.count();
+    let count = local.blocks.len();
     let blocks = kept_first(alloc, local.blocks.moved(), local.heard.moved())?;
     let known = Known::of(alloc, setup.root_count() as usize, blocks)?;
     local.blocks = Items::of(advance(alloc, setup, &known, count)?);

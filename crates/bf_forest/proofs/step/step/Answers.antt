@@ -16,14 +16,14 @@ of-requires g c =
 pub advance-requires : goal.advance-requires
 advance-requires g c =
     can_advance (case_of c.args.setup.now) g.time c.args.local.now (every_setup_runs c.args.setup.now) c.requires c.in_ok-known.known c.in_ok-blocks.blocks.items
-    c.root_count.result c.count-count.result (c.in_ok-blocks.ensures ∙ rw (c.moved.ensures.items, c.moved-2.ensures.items)) c.in_ok-known.ensures.blocks
-    c.root_count.ensures.value c.in_ok-known.ensures.places c.count-count.ensures
+    c.root_count.result c.len-count.result (c.in_ok-blocks.ensures ∙ rw (c.moved.ensures.items, c.moved-2.ensures.items)) c.in_ok-known.ensures.blocks
+    c.root_count.ensures.value c.in_ok-known.ensures.places c.len-count.ensures
 
 pub returns : goal.returns
 returns g c =
     same_local c.args.local.now _ _ _ _
     (c.of-2.ensures
     ∙ all_stepped (case_of c.args.setup.now) g.time c.args.local.now (every_setup_runs c.args.setup.now) c.requires c.in_ok-known.known c.in_ok-blocks.blocks.items
-    c.in_ok-advance.field-0.items c.count-count.result (c.in_ok-blocks.ensures ∙ rw (c.moved.ensures.items, c.moved-2.ensures.items)) c.in_ok-known.ensures.blocks
-    c.count-count.ensures c.in_ok-advance.ensures)
+    c.in_ok-advance.field-0.items c.len-count.result (c.in_ok-blocks.ensures ∙ rw (c.moved.ensures.items, c.moved-2.ensures.items)) c.in_ok-known.ensures.blocks
+    c.len-count.ensures c.in_ok-advance.ensures)
     c.moved-2.ensures.none
