@@ -2,3 +2,4 @@ pub mod PlaceSteps
 pub mod Stepping
 pub mod Readying
 pub mod OpeningSteps
+pub mod Finishing

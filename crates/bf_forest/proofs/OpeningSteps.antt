@@ -61,6 +61,6 @@ pub ruleset opening_steps = (rank_in, rank_below)
 pub first_at : (c : Case) (firsts : List (List BlockValue)) (rank : ℕ) (d : List BlockValue) → firsts ≡ map (first_blocks c) (range_with_len 0 c.ranks) → rank < c.ranks
     → (rank < length firsts) × (get_or firsts rank d ≡ first_blocks c rank)
 first_at c firsts rank d is below = (
-    omega (arith, ap length is, length-map-range_with_len (first_blocks c) 0 c.ranks),
-    ap (λ (l : List (List BlockValue)). get_or l rank d) is ∙ get_or-map-range_with_len (first_blocks c) 0 c.ranks rank rank d below (omega arith),
-  )
+  omega (arith, ap length is, length-map-range_with_len (first_blocks c) 0 c.ranks),
+  ap (λ (l : List (List BlockValue)). get_or l rank d) is ∙ get_or-map-range_with_len (first_blocks c) 0 c.ranks rank rank d below (omega arith),
+)

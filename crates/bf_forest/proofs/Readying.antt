@@ -3,7 +3,7 @@ use Rattle.std.proofs.Common.{◌≡◌, ℕ, ◌+◌, ◌<◌, ◌≤◌, true,
 use Rattle.std.proofs.Math.Seq.{take-append_seam}
 use Rattle.std.proofs.lemmas.List.{length-map, length-append, get_or-map, map-append}
 use Rattle.std.proofs.lemmas.Simd.{map-map}
-use Rattle.std.proofs.lemmas.List.Elements.{All-append, All-contains, All-get_or, All-map, All-tail, All-take, All-weaker, at_from_Contains}
+use Rattle.std.proofs.lemmas.List.Elements.{All-append, All-contains, All-get_or, All-head, All-map, All-tail, All-take, All-weaker, at_from_Contains}
 use Rattle.bf_id.specs.Id.{BlockId, root_id}
 use Rattle.bf_id.specs.Shape.{root_count}
 use Rattle.bf_cells.specs.Grid.{Grid, grid_with}
@@ -24,7 +24,7 @@ use Rattle.bf_forest.specs.Gathered.{advanced, gathered, stepped_among}
 use Rattle.bf_forest.specs.Goods.{IsBlockAt}
 use Rattle.bf_forest.specs.Known.{is_known, known_grid, KnowsModel, CanAdvance}
 use Rattle.bf_forest.specs.Places.{ArePlaces, roots_in}
-use Rattle.bf_forest.specs.Ready.{CanBeKept, IsKeptAt, IsReady}
+use Rattle.bf_forest.specs.Ready.{CanBeKept, IsKeptAt, IsReady, next_block}
 use Rattle.bf_forest.specs.StepLaws.{HasRoots, block_root, model_cells, gathered_is_model}
 use Rattle.bf_forest.proofs.PlaceSteps.{place_of_root, length-roots_in}
 
@@ -34,6 +34,11 @@ all_first P xs ys each = subst (All P) (take-append_seam xs ys) (All-take P (len
 all_later : (P : BlockValue → Type 0) (xs ys : List BlockValue) → All P (xs ++ ys) → All P ys
 all_later P [] ys each = each
 all_later P (x ∷ xs) ys each = all_later P xs ys (All-tail P x (xs ++ ys) each)
+
+mapped_same : (P : BlockValue → Type 0) (f g : BlockValue → BlockValue) (xs : List BlockValue) → All P xs → ((b : BlockValue) → P b → f b ≡ g b) → map f xs ≡ map g xs
+mapped_same P f g [] each same = refl
+mapped_same P f g (x ∷ xs) each same =
+    ap (λ (y : BlockValue). y ∷ map f xs) (same x (All-head P x xs each)) ∙ ap (λ (ys : List BlockValue). g x ∷ ys) (mapped_same P f g xs (All-tail P x xs each) same)
 
 -- a block of the model at a time is kept by its regrid
 can_be_kept : (c : Case) (time : ℕ) (b : BlockValue) → CanRun c → IsBlockAt c time b → CanBeKept b
@@ -158,7 +163,7 @@ module _ (c : Case) (time : ℕ) (local : ForestLocal) (runs : CanRun c) (ready 
 
   -- what the steps make
   pub all_stepped : (known : Known) (blocks made : List BlockValue) (count : ℕ) → blocks ≡ all_blocks → known.blocks.items ≡ blocks → count ≡ length local.blocks
-      → made ≡ map (advanced (model c (time + 1))) (take count known.blocks.items)
+      → made ≡ map (next_block c) (take count known.blocks.items)
       → made ≡ stepped_among c (local.blocks ++ local.heard) local.blocks
   unfolding stepped_among
   all_stepped known blocks made count is same counted stepped =
@@ -166,12 +171,14 @@ module _ (c : Case) (time : ℕ) (local : ForestLocal) (runs : CanRun c) (ready 
       let after : model c (time + 1) ≡ stencil c.roots c.side (gathered c (local.blocks ++ local.heard)) =
       model_next c time runs.valid runs.one_level ∙ ap (stencil c.roots c.side) (sym (gathered_is_model c time (local.blocks ++ local.heard) runs ready.known ready.roots)) in
       stepped
-      ∙ ap (λ n. map (advanced (model c (time + 1))) (take n known.blocks.items)) counted
-      ∙ ap (λ (l : List BlockValue). map (advanced (model c (time + 1))) (take (length local.blocks) l)) whole
-      ∙ ap (λ n. map (advanced (model c (time + 1))) (take n all_blocks)) (sym (length-map local.blocks kept_block))
-      ∙ ap (map (advanced (model c (time + 1)))) (take-append_seam (map kept_block local.blocks) local.heard)
-      ∙ map-map (advanced (model c (time + 1))) kept_block local.blocks
-      ∙ ap (λ (l : List Leaf). map (advanced l) local.blocks) after
+      ∙ ap (λ n. map (next_block c) (take n known.blocks.items)) counted
+      ∙ ap (λ (l : List BlockValue). map (next_block c) (take (length local.blocks) l)) whole
+      ∙ ap (λ n. map (next_block c) (take n all_blocks)) (sym (length-map local.blocks kept_block))
+      ∙ ap (map (next_block c)) (take-append_seam (map kept_block local.blocks) local.heard)
+      ∙ map-map (next_block c) kept_block local.blocks
+      ∙ mapped_same (IsBlockAt c time) (λ b. next_block c (kept_block b)) (advanced (stencil c.roots c.side (gathered c (local.blocks ++ local.heard)))) local.blocks
+      (all_first (IsBlockAt c time) local.blocks local.heard ready.known)
+      (λ b its. ap (λ (p : Point). advanced (model c (p.time + 1)) b) its.at ∙ ap (λ (l : List Leaf). advanced l b) after)
 
 -- a local by its blocks and what it has heard
 pub same_local : (local : ForestLocal) (a b heard none : List BlockValue) → a ≡ b → heard ≡ none

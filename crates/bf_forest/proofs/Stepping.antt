@@ -24,7 +24,7 @@ use Rattle.bf_forest.specs.declared.known.Known.{Known}
 use Rattle.bf_forest.specs.Gathered.{cells_or, advanced}
 use Rattle.bf_forest.specs.Goods.{IsBlockAt}
 use Rattle.bf_forest.specs.Known.{is_known, known_grid, KnowsModel}
-use Rattle.bf_forest.specs.Ready.{IsKeptAt}
+use Rattle.bf_forest.specs.Ready.{IsKeptAt, next_block}
 use Rattle.bf_forest.specs.StepLaws.{block_root}
 
 some_grid : (g h : Grid) → Some g ≡ Some h → g ≡ h
@@ -78,7 +78,7 @@ all_held c time side known b w runs knows is fits laid =
 
 -- a block between walls becomes what the next map has
 pub step_is : (c : Case) (time : ℕ) (b new : BlockValue) (w : Walls) → IsKeptAt c time b → new ≡ stepped_block b w → IsModels new
-    → new ≡ advanced (model c (time + 1)) b
+    → new ≡ next_block c b
 step_is c time b new w is made models =
     let found : cells_at (map_at b.case (before_regrid (b.point.time + 1))) b.id ≡ Some (stepped_block b w).cells =
     (subst (λ (v : BlockValue). IsModels v) made models).leaf in
@@ -87,6 +87,7 @@ step_is c time b new w is made models =
     (subst (λ (k : Case). cells_at (map_at k (before_regrid (b.point.time + 1))) b.id ≡ Some (stepped_block b w).cells) is.of_case found) in
     let with : Grid → BlockValue = λ g. record b { point = before_regrid (b.point.time + 1); cells = g } in
     made ∙ ap (λ o. with (cells_or o b.cells)) (sym later)
+    ∙ ap (λ t. advanced (model c (t + 1)) b) (ap (λ (p : Point). p.time) (sym is.at))
 
 -- what holds of the first of a list holds of one of them
 pub of_first : (P : BlockValue → Type 0) (blocks : List BlockValue) (count place : ℕ) (b d : BlockValue) → All P (take count blocks) → place < count → count ≤ length blocks

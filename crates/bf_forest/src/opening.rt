@@ -11,7 +11,8 @@ use crate::ForestLocal;
 use crate::blocks::copies;
 use bf_block::{Block, Memory, Opening, Setup};
 use bf_buddy::Members;
-use bf_parts::{Items, Side};
+use bf_items::Items;
+use bf_parts::Side;
 use std::alloc::Global;
 
 // The rank at which a root begins.

@@ -1,18 +1,17 @@
 //! A step of a rank's blocks.
-ghost use Rattle.std.specs.Prelude.{◌≡◌, ℕ, ◌+◌, [], ◌++◌, All, length, map, take, IfOk, OnOk};
-ghost use Rattle.bf_case.specs.Model.{model};
+ghost use Rattle.std.specs.Prelude.{◌≡◌, ℕ, [], ◌++◌, All, map, take, IfOk, OnOk};
 ghost use Rattle.bf_block.specs.Block.{kept_block};
 ghost use Rattle.bf_block.specs.Setup.{case_of};
-ghost use Rattle.bf_forest.specs.Gathered.{advanced, stepped_among};
+ghost use Rattle.bf_forest.specs.Gathered.{stepped_among};
 ghost use Rattle.bf_forest.specs.Known.{CanAdvance};
-ghost use Rattle.bf_forest.specs.Ready.{CanBeKept, IsReady};
+ghost use Rattle.bf_forest.specs.Ready.{CanBeKept, IsReady, next_block};
 
 use crate::ForestLocal;
 use crate::known::Known;
 use bf_block::{Block, Memory, Setup};
 use bf_case::surround;
 use bf_cells::Shell;
-use bf_parts::Items;
+use bf_items::Items;
 use std::alloc::Global;
 
 // The own blocks after their regrid, and then the others.
@@ -30,21 +29,14 @@ fn kept_first(alloc: Global, own: Items<Block>, others: Items<Block>) -> Result<
 
 // The first of the known blocks, one step later. One shell serves them all.
 fn advance(alloc: Global, setup: &Setup, known: &Known, count: usize) -> Result<Vec<Block>, Memory>
-    ghost time: { ℕ }
-    requires { CanAdvance (case_of setup.now) time known.now count }
-    ensures { IfOk result (λ blocks. blocks.items
-        ≡ map (advanced (model (case_of setup.now) (time + 1))) (take count known.now.blocks.items)) }
+    requires { (time : ℕ) × CanAdvance (case_of setup.now) time known.now count }
+    ensures { IfOk result (λ blocks. blocks.items ≡ map (next_block (case_of setup.now)) (take count known.now.blocks.items)) }
 {
     let mut shell = Shell::blank(alloc, setup.side())?;
     let mut stepped = Vec::with_capacity(alloc, count)?;
     for place in 0..count {
         let block = &known.blocks[place];
-        surround(
-            &mut shell,
-            setup.roots(),
-            known,
-            block.id().root() as usize,
-        );
+        surround(&mut shell, setup.roots(), known, block.id().root() as usize);
         stepped.push(block.advanced(alloc, &shell)?)?;
     }
     Ok(stepped)
@@ -52,10 +44,11 @@ fn advance(alloc: Global, setup: &Setup, known: &Known, count: usize) -> Result<
 
 /// A step of a rank's blocks, of which all others that it has heard of are copies. They are let go.
 pub fn step(alloc: Global, setup: &Setup, local: &mut ForestLocal) -> Result<(), Memory>
-    ghost time: { ℕ }
-    requires { IsReady (case_of setup.now) time local.old }
+    requires { (time : ℕ) × IsReady (case_of setup.now) time local.old }
     ensures { OnOk result (local.new ≡ (record local.old {
-        blocks = stepped_among (case_of setup.now) (local.old.blocks ++ local.old.heard) local.old.blocks; heard = [] })) }
+      blocks = stepped_among (case_of setup.now) (local.old.blocks ++ local.old.heard) local.old.blocks;
+      heard = [];
+    })) }
 {
     let count = local.blocks.len();
     let blocks = kept_first(alloc, local.blocks.moved(), local.heard.moved())?;
