@@ -72,9 +72,9 @@ is_found (leaf ∷ leaves) i g has = by (cases_Bool (id_eq leaf.0 i)) (is_found 
       where
         rest : ((i, g) ≡ leaf) ⊎ Contains leaves (i, g) → Contains leaves (i, g)
         rest (inl same) = absurd (
-          let its : leaf.0 ≡ i = ap (λ (l : Leaf). l.0) (sym same) in
-          let passed : id_eq leaf.0 i ≡ true = (id_eq_is_equal leaf.0 i).1 its in
-          let both : true ≡ false = sym passed ∙ failed in cc)
+            let its : leaf.0 ≡ i = ap (λ (l : Leaf). l.0) (sym same) in
+            let passed : id_eq leaf.0 i ≡ true = (id_eq_is_equal leaf.0 i).1 its in
+            let both : true ≡ false = sym passed ∙ failed in cc)
         rest (inr in') = in'
 
 -- each root is among the blocks
