@@ -1,16 +1,13 @@
 -- No item comes or goes, and each id is held once.
-use Rattle.std.proofs.Common.{◌≡◌, ℕ, ◌<◌, Bool, true, List, refl, ap, sym, ◌∙◌, arith, All}
+use Rattle.std.proofs.Common.{◌≡◌, ℕ, Bool, true, refl}
 use Rattle.std.specs.Prelude.{◌==◌, nat_lt, IsTrue}
 use Rattle.std.specs.List.{count_by, range_with_len}
-use Rattle.std.proofs.lemmas.Bool.Decides.{nat_tests}
-use Rattle.bf_program.specs.declared.epoch.Epoch.{Epoch}
 use Rattle.bf_program.specs.Laws.{KeepsRegions}
 use Rattle.bf_parts.specs.KeyLaws.{counted_at}
 use Rattle.bf_parts.specs.PieceLaws.{pieces_kept as pieces_are_kept}
-use Rattle.bf_parts.specs.Programs.{HasPieces, IsAlike}
+use Rattle.bf_parts.specs.Programs.{HasPieces}
 use Rattle.bf_parts.specs.Shares.{held}
 use Rattle.bf_tally.specs.declared.item.Item.{Item}
-use Rattle.bf_tally.specs.declared.local.TallyLocal.{TallyLocal}
 use Rattle.bf_tally.specs.declared.setup.TallySetup.{TallySetup}
 use Rattle.bf_tally.specs.Goods.{IsGood}
 use Rattle.bf_tally.specs.GoodLaws.{has_parts}
