@@ -63,6 +63,7 @@ impl Block {
     /// The cells, which are those of the model.
     pub fn cells(&self) -> &Cells
         ensures cells { result.now ≡ self.now.cells }
+        ensures side { result.now.side ≡ self.now.case.side }
         ensures model { IsModels self.now }
     {
         &self.cells
