@@ -17,3 +17,6 @@ pub use opening::Opening;
 pub use point::Point;
 pub use setup::Setup;
 pub use std::alloc::AllocError as Memory;
+
+#[cfg(test)]
+mod tests;
