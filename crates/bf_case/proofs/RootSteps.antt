@@ -47,7 +47,7 @@ abbrev z_high_wall : Shape → List Leaf → ℕ → List ℕ
 z_high_wall shape leaves k =
     cond (eqb (k / shape.nx / shape.ny + 1) shape.nz) (face_values (grid_at leaves k) 5) (face_values (grid_at leaves (k + shape.nx * shape.ny)) 4)
 
-abbrev walls_by_tests : Shape → ℕ → List Leaf → ℕ → Walls
+abbrev pub walls_by_tests : Shape → ℕ → List Leaf → ℕ → Walls
 walls_by_tests shape edge leaves k = record {
   side = edge;
   x_low = x_low_wall shape leaves k;
@@ -65,7 +65,7 @@ wall_chosen : (leaves : List Leaf) (k : ℕ) (test : Bool) (across : ℕ) (face 
 wall_chosen leaves k true across face = refl
 wall_chosen leaves k false across face = refl
 
-walls_are_by_tests : (shape : Shape) (edge : ℕ) (leaves : List Leaf) (k : ℕ) → walls_around shape edge (grid_at leaves) k ≡ walls_by_tests shape edge leaves k
+pub walls_are_by_tests : (shape : Shape) (edge : ℕ) (leaves : List Leaf) (k : ℕ) → walls_around shape edge (grid_at leaves) k ≡ walls_by_tests shape edge leaves k
 unfolding walls_around
 walls_are_by_tests shape edge leaves k =
     let xl = wall_chosen leaves k (eqb (k % shape.nx) 0) (k - 1) XLow in

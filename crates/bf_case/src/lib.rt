@@ -7,15 +7,14 @@
 
 mod case;
 mod filling;
-mod items;
 pub mod laws;
 mod map;
 mod neighbours;
 pub mod rows;
 mod validity;
 
+pub use bf_items::Items;
 pub use case::{Case, Fill};
 pub use filling::filled_root;
-pub use items::Items;
 pub use map::Map;
 pub use neighbours::{RootCells, surround};

@@ -240,13 +240,13 @@ restore_when_whole state restores = by_loss (first_lost state) refl restores
     by_loss None whole _ = whole
 
 -- the outcome of a decision
-abbrev outcome_of : State → Decision → Option Outcome
+abbrev pub outcome_of : State → Decision → Option Outcome
 outcome_of state (Lose home buddy) = Some (outcomes.Lost state.epoch.time home buddy)
 outcome_of state WantMemory = Some outcomes.Memory
 outcome_of state Commit = if state.epoch.target == state.steps then Some outcomes.Finished else state.outcome
 outcome_of state Restore = state.outcome
 
-decided_outcome : (state : State) (made : Decision) → (decided state made).outcome ≡ outcome_of state made
+pub decided_outcome : (state : State) (made : Decision) → (decided state made).outcome ≡ outcome_of state made
 unfolding decided dissolved
 decided_outcome state (Lose home buddy) = refl
 decided_outcome state WantMemory = refl

@@ -11,3 +11,4 @@ pub mod NextLemmas
 pub mod RoomLemmas
 pub mod ArrivalLemmas
 pub mod EndLemmas
+pub mod DecideLemmas

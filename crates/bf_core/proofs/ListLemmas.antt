@@ -1,5 +1,8 @@
 -- Filters, and lists in which some element passes a test.
-use Rattle.std.proofs.Common.{◌≡◌, ℕ, zero, suc, ◌+◌, ◌<◌, ◌≤◌, Bool, true, false, cond, ◌&&◌, ◌||◌, List, [], ◌∷◌, filter, length, arith, refl}
+use Rattle.std.proofs.Common.{◌≡◌, ℕ, zero, suc, ◌+◌, ◌<◌, ◌≤◌, Bool, true, false, cond, ◌&&◌, ◌||◌, List, [], ◌∷◌, filter, length, arith, refl, ◌∙◌, ap, inl, inr}
+use Rattle.std.specs.Prelude.{◌==◌}
+use Rattle.std.proofs.lemmas.Bool.{cases_eq, eq-eqb}
+use Rattle.bf_buddy.specs.Members.{is_member}
 use Rattle.std.specs.List.{range_with_len, list_any, list_all}
 use Rattle.std.proofs.Math.ListN.{get_or}
 
@@ -60,3 +63,34 @@ all_at test (x ∷ xs) (suc i) d default all = all_at test xs i d default (rest_
     rest_passes : (a b : Bool) → (a && b) ≡ true → b ≡ true
     rest_passes true b passes = passes
     rest_passes false b passes = absurd (cc)
+
+-- who passes a test is among those of a range that do
+pub in_filtered : (p : ℕ → Bool) (k n y : ℕ) → k ≤ y → y < k + n → p y ≡ true → is_member (filter p (range_with_len k n)) y ≡ true
+in_filtered p k zero y from below passes = absurd (omega arith)
+in_filtered p k (suc n) y from below passes = elim (cases_eq k y) [
+  | inl e ↦ here (p k) (k == y) (ap p e ∙ passes) (eq-eqb k y e)
+  | inr differs ↦ later (p k) (k == y) (in_filtered p (k + 1) n y (omega (arith, differs)) (omega arith) passes)
+]
+  where
+    here : (b c : Bool) → b ≡ true → (k == y) ≡ true → is_member (cond b (k ∷ filter p (range_with_len (k + 1) n)) (filter p (range_with_len (k + 1) n))) y ≡ true
+    here true c _ same = rw same refl
+    here false c fails same = absurd (cc)
+
+    rest_in : (a b : Bool) → b ≡ true → (a || b) ≡ true
+    rest_in true b holds = refl
+    rest_in false b holds = holds
+
+    later : (b c : Bool) → is_member (filter p (range_with_len (k + 1) n)) y ≡ true
+        → is_member (cond b (k ∷ filter p (range_with_len (k + 1) n)) (filter p (range_with_len (k + 1) n))) y ≡ true
+    later true c rest = rest_in (k == y) _ rest
+    later false c rest = rest
+
+-- an element that fails a test, where not all pass
+pub fails_at : {X : Type 0} (test : X → Bool) (xs : List X) (d : X) → list_all test xs ≡ false → (i : ℕ) × ((i < length xs) × (test (get_or xs i d) ≡ false))
+fails_at test [] d fails = absurd (cc)
+fails_at {X = X} test (x ∷ xs) d fails = at_first (λ later. fails_at test xs d later) (test x) refl fails
+  where
+    at_first : (list_all test xs ≡ false → (i : ℕ) × ((i < length xs) × (test (get_or xs i d) ≡ false))) → (b : Bool) → test x ≡ b → (b && list_all test xs) ≡ false
+        → (i : ℕ) × ((i < length (x ∷ xs)) × (test (get_or (x ∷ xs) i d) ≡ false))
+    at_first rest false failed _ = (0, (omega arith, failed))
+    at_first rest true passed later = let there = rest later in (suc there.0, (omega (arith, there.1.0), there.1.1))

@@ -6,16 +6,16 @@ ghost use Rattle.std.specs.Prelude.{◌≡◌, ◌↔◌, ℕ, IsTrue, Bool, Lis
 ghost use Rattle.bf_buddy.specs.Members.{is_member};
 ghost use Rattle.bf_core.specs.declared.event.Event.{Event};
 ghost use Rattle.bf_core.specs.declared.outcome.Outcome.{Outcome};
-ghost use Rattle.bf_core.specs.declared.outcome.Outcome.TheVariants.{Lost};
+ghost use Rattle.bf_core.specs.declared.outcome.Outcome.TheVariants.{Finished, Lost, Memory};
 ghost use Rattle.bf_core.specs.declared.place.Place.{Place};
 ghost use Rattle.bf_core.specs.Stages.{has_finished_rounds, goes_on};
 ghost use Rattle.bf_core.specs.States.{State, stage, is_finished, first_lost};
 ghost use Rattle.bf_core.specs.Legal.{actor, is_legal};
-ghost use Rattle.bf_core.specs.declared.decision.Decision.TheVariants.{Commit};
+ghost use Rattle.bf_core.specs.declared.decision.Decision.TheVariants.{Commit, Restore};
 ghost use Rattle.bf_core.specs.Next.{Decides, happened, next};
 ghost use Rattle.bf_core.specs.Journals.{Move, are_legal, after};
 ghost use Rattle.bf_core.specs.Orders.{AreInOrder, CanMove, IsReached};
-ghost use Rattle.bf_core.specs.Laws.{IsFinal, LosesAt, OnlyLoses, remaining};
+ghost use Rattle.bf_core.specs.Laws.{IsFinal, LosesAt, OnlyLoses, remaining, DecidesWhole, SomebodyWants, AllAreDone, SomebodyIsUndone};
 
 use bf_buddy::laws::nothing_is_lost_where_holders_live;
 
@@ -31,6 +31,39 @@ pub fn a_commit_needs_everyone()
     ensures { (state : State) (event : Event) (place : Place) (filled : Bool) → IsReached state → IsTrue (is_legal state event place)
         → Decides state event filled Commit → (rank : ℕ) → IsTrue (is_member state.epoch.members rank)
         → IsTrue (has_finished_rounds (stage (happened state event filled) rank)) }
+{}
+
+/// A commit is decided exactly where, once every live member has arrived, no part of the agreed snapshot is lost and every
+/// member has done all rounds.
+#[tactic(auto, using(crate::proofs::DecideLemmas::commits_where))]
+pub fn commit_exactly_where_all_are_done()
+    ensures { (state : State) (event : Event) (place : Place) (filled : Bool) → IsReached state → IsTrue (is_legal state event place)
+        → (Decides state event filled Commit ↔ (DecidesWhole state event filled × AllAreDone state.epoch.members (happened state event filled))) }
+{}
+
+/// A run ends Finished exactly where a commit is decided in the epoch that goes to the last step.
+#[tactic(auto, using(crate::proofs::DecideLemmas::finishes_where))]
+pub fn finished_exactly_where_all_are_done()
+    ensures { (state : State) (event : Event) (place : Place) (filled : Bool) → IsReached state → IsTrue (is_legal state event place) → state.outcome ≡ None
+        → ((next state event filled).outcome ≡ Some Finished
+        ↔ (DecidesWhole state event filled × (AllAreDone state.epoch.members (happened state event filled) × (state.epoch.target ≡ state.steps)))) }
+{}
+
+/// A restore is decided exactly where, once every live member has arrived, no part of the agreed snapshot is lost, nobody
+/// wants memory, and some member is dead or has not done all rounds.
+#[tactic(auto, using(crate::proofs::DecideLemmas::restores_where))]
+pub fn restore_exactly_where_some_are_undone()
+    ensures { (state : State) (event : Event) (place : Place) (filled : Bool) → IsReached state → IsTrue (is_legal state event place)
+        → (Decides state event filled Restore
+        ↔ (DecidesWhole state event filled × ((SomebodyWants (happened state event filled) → ⊥) × SomebodyIsUndone state.epoch.members (happened state event filled)))) }
+{}
+
+/// A run ends for want of memory exactly where, once every live member has arrived, no part of the agreed snapshot is lost
+/// and some member has arrived for want of memory.
+#[tactic(auto, using(crate::proofs::DecideLemmas::wants_where))]
+pub fn memory_exactly_where_wanting()
+    ensures { (state : State) (event : Event) (filled : Bool) → state.outcome ≡ None
+        → ((next state event filled).outcome ≡ Some Memory ↔ (DecidesWhole state event filled × SomebodyWants (happened state event filled))) }
 {}
 
 /// A run ends Lost exactly where, once every live member has arrived, both holders of some part of the agreed snapshot

@@ -5,7 +5,7 @@ use Rattle.std.proofs.lemmas.Bool.{eqb-true}
 use Rattle.std.proofs.lemmas.Bool.Decides.{nat_tests}
 use Rattle.std.proofs.lemmas.List.Elements.{All-head, All-tail, filter_agree}
 use Rattle.bf_tally.specs.declared.stage.Stage.{Stage}
-use Rattle.bf_tally.specs.Bools.{or_true, and_true, and_false}
+use Rattle.bf_parts.specs.Bools.{or_true, and_true, and_false}
 use Rattle.bf_tally.specs.Peers.{is_peer, peers_of}
 
 -- those of the members below a rank that pass a test, and the others

@@ -190,7 +190,7 @@ module _ {S L M T R : Type 0} (m : Meanings S L M T R) (good : S → Epoch → �
   past_place Past _ = refl
   past_place (Rounds round sent received peers) still = absurd (cc)
 
-  happened_steady : (run : Run L T) (event : Event) → IsSteady run → IsSound run.core → is_legal run.core event (place run (actor event)) ≡ true
+  pub happened_steady : (run : Run L T) (event : Event) → IsSteady run → IsSound run.core → is_legal run.core event (place run (actor event)) ≡ true
       → IsSteady (run_happened m setup run event)
   happened_steady run (Send rank to blocks sum) steady sound legal = sent_steady run rank to blocks sum steady sound legal
   happened_steady run (Recv rank peer) steady sound legal = received_steady run rank peer steady sound legal
@@ -291,7 +291,7 @@ target_within steps interval time = min_le (time + interval) steps
 
 module _ {S L M T R : Type 0} (m : Meanings S L M T R) (good : S → Epoch → ℕ → List L → Type 0) (setup : S)
     (goods : KeepsGood m good setup) (stores : KeepsStored m good setup) where
-  last_good : (run : Run L T) → IsSteady m good setup run → good setup run.core.epoch (m.rounds setup run.core.epoch) (last_locals m setup run)
+  pub last_good : (run : Run L T) → IsSteady m good setup run → good setup run.core.epoch (m.rounds setup run.core.epoch) (last_locals m setup run)
   unfolding last_locals
   last_good run steady = stays_good m good setup goods run.core.epoch run.start (m.rounds setup run.core.epoch) steady.good_start (omega arith)
 

@@ -2,12 +2,14 @@ pub mod QueueLemmas
 pub mod PlaceLemmas
 pub mod LawfulLemmas
 pub mod MemberLemmas
+pub mod OnceLemmas
 pub mod PeerLemmas
 pub mod MessageLemmas
 pub mod HoldLemmas
 pub mod WaitingLemmas
 pub mod OrderLemmas
 pub mod RunLemmas
+pub mod ResultLemmas
 pub mod NeedLemmas
 pub mod StopLemmas
 pub mod WorldLemmas
@@ -16,3 +18,6 @@ pub mod OpeningLemmas
 pub mod CountLemmas
 pub mod RangeLemmas
 pub mod WeightLemmas
+pub mod ReachedLemmas
+pub mod PeaceLemmas
+pub mod EndLemmas

@@ -1,7 +1,7 @@
 -- Sums over the ranks, lists that rise, and filters that drop a rank.
-use Rattle.std.proofs.Common.{◌≡◌, ℕ, zero, suc, ◌+◌, ◌*◌, ◌<◌, ◌≤◌, Bool, true, false, cond, ◌&&◌, ◌||◌, List, [], ◌∷◌, filter, length, get_or, arith, refl, sym, subst, ◌∙◌, ap, inl, inr}
+use Rattle.std.proofs.Common.{◌≡◌, ℕ, zero, suc, ◌+◌, ◌*◌, ◌<◌, ◌≤◌, Bool, true, false, cond, ◌||◌, List, [], ◌∷◌, filter, length, get_or, arith, refl, sym, subst, ◌∙◌, ap, inl, inr}
 use Rattle.std.specs.Prelude.{◌==◌, sum_by}
-use Rattle.std.specs.List.{range_with_len, list_all}
+use Rattle.std.specs.List.{range_with_len}
 use Rattle.std.specs.List.Sorted.{IsStrictlyIncreasing}
 use Rattle.std.proofs.lemmas.Bool.{cases_eq, cases_lt, eqb-true, eq-eqb}
 use Rattle.std.proofs.lemmas.List.Sums.{sum_by-cons, sum_by-le-sum_by}
@@ -90,34 +90,3 @@ filter_fewer p (x ∷ xs) y member fails = by_head (x == y) refl member (λ late
         → length (filter p (x ∷ xs)) < length (x ∷ xs)
     by_head true same _ rest = dropped (p x) (ap p (eqb-true x y same) ∙ fails)
     by_head false other later rest = by_first (p x) (rest later)
-
--- who passes a test is among those of a range that do
-pub in_filtered : (p : ℕ → Bool) (k n y : ℕ) → k ≤ y → y < k + n → p y ≡ true → is_member (filter p (range_with_len k n)) y ≡ true
-in_filtered p k zero y from below passes = absurd (omega arith)
-in_filtered p k (suc n) y from below passes = elim (cases_eq k y) [
-  | inl e ↦ here (p k) (k == y) (ap p e ∙ passes) (eq-eqb k y e)
-  | inr differs ↦ later (p k) (k == y) (in_filtered p (k + 1) n y (omega (arith, differs)) (omega arith) passes)
-]
-  where
-    here : (b c : Bool) → b ≡ true → (k == y) ≡ true → is_member (cond b (k ∷ filter p (range_with_len (k + 1) n)) (filter p (range_with_len (k + 1) n))) y ≡ true
-    here true c _ same = rw same refl
-    here false c fails same = absurd (cc)
-
-    rest_in : (a b : Bool) → b ≡ true → (a || b) ≡ true
-    rest_in true b holds = refl
-    rest_in false b holds = holds
-
-    later : (b c : Bool) → is_member (filter p (range_with_len (k + 1) n)) y ≡ true
-        → is_member (cond b (k ∷ filter p (range_with_len (k + 1) n)) (filter p (range_with_len (k + 1) n))) y ≡ true
-    later true c rest = rest_in (k == y) _ rest
-    later false c rest = rest
-
--- an element that fails a test, where not all pass
-pub fails_at : {X : Type 0} (test : X → Bool) (xs : List X) (d : X) → list_all test xs ≡ false → (i : ℕ) × ((i < length xs) × (test (get_or xs i d) ≡ false))
-fails_at test [] d fails = absurd (cc)
-fails_at {X = X} test (x ∷ xs) d fails = at_first (λ later. fails_at test xs d later) (test x) refl fails
-  where
-    at_first : (list_all test xs ≡ false → (i : ℕ) × ((i < length xs) × (test (get_or xs i d) ≡ false))) → (b : Bool) → test x ≡ b → (b && list_all test xs) ≡ false
-        → (i : ℕ) × ((i < length (x ∷ xs)) × (test (get_or (x ∷ xs) i d) ≡ false))
-    at_first rest false failed _ = (0, (omega arith, failed))
-    at_first rest true passed later = let there = rest later in (suc there.0, (omega (arith, there.1.0), there.1.1))

@@ -94,7 +94,7 @@ counted state waiting from to count others counts ranks size =
     ∙ ap (slice_set state.queues (channel state.ranks from to)) size
 
 -- a decision empties the queues
-decided_queues : (state : State) (made : Decision) → (decided state made).queues ≡ replicate (length state.queues) 0
+pub decided_queues : (state : State) (made : Decision) → (decided state made).queues ≡ replicate (length state.queues) 0
 unfolding decided dissolved
 decided_queues state (Lose home buddy) = refl
 decided_queues state WantMemory = refl

@@ -4,4 +4,7 @@ pub mod Course
 pub mod Runs
 pub mod Messages
 pub mod Worlds
+pub mod Results
+pub mod Ends
+pub mod Weights
 pub mod Settled

@@ -3,6 +3,7 @@
 
 mod answers;
 mod journal;
+pub mod laws;
 mod queues;
 mod steps;
 mod world;

@@ -1,0 +1,4 @@
+pub mod Axis
+pub mod Steps
+pub mod BlockLemmas
+pub mod Walls

@@ -1,0 +1,5 @@
+pub mod Runs
+pub mod Setup
+pub mod Around
+pub mod Block
+pub mod BlockFields

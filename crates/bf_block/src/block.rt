@@ -1,0 +1,147 @@
+ghost use Rattle.std.specs.Prelude.{◌≡◌, ◌<◌, Contains, IsFalse, IsTrue, IfErr, IfOk};
+ghost use Rattle.bf_id.specs.Shape.{root_count};
+ghost use Rattle.bf_case.specs.Map.{ids_of};
+ghost use Rattle.bf_block.specs.Around.{HoldSamples};
+ghost use Rattle.bf_block.specs.Block.{IsModels, initial_block, kept_block, stepped_block, map_at, after_regrid};
+
+use crate::{Kept, Memory, Opening, Point, Setup};
+use bf_case::filled_root;
+use bf_cells::{Cells, Shell};
+use bf_id::Id;
+use std::alloc::Global;
+use std::marker::Model;
+
+/// A leaf of the model at a point of a run, with the cells that the model has of it there.
+#[derive(Drop)]
+pub struct Block {
+    setup: Setup,
+    point: Point,
+    id: Id,
+    cells: Cells,
+}
+
+impl Model for Block {
+    ghost use Rattle.bf_block.specs.Block.{BlockValue, IsModels};
+
+    ghost Value = { BlockValue };
+
+    ghost use Rattle.bf_block.specs.BlockFields.{block_in};
+
+    ghost view = { block_in };
+
+    ghost invariant = { λ b. IsModels (block_in b) };
+}
+
+impl Block {
+    /// A root at the beginning. It takes an opening, so no rank can make one.
+    pub fn initial(alloc: Global, opening: &Opening, root: u32) -> Result<Block, Memory>
+        requires { root < root_count opening.now.roots }
+        ensures { IfOk result (λ block. block ≡ initial_block opening.now root) }
+    {
+        let setup = opening.setup();
+        let cells = filled_root(alloc, setup.case(), root)?;
+        Ok(Block {
+            setup: setup.share()?,
+            point: Point {
+                time: 0,
+                regridded: false,
+            },
+            id: Id::root_of(root),
+            cells,
+        })
+    }
+
+    pub fn id(&self) -> Id
+        ensures { result ≡ self.now.id }
+    {
+        self.id
+    }
+
+    pub fn point(&self) -> Point
+        ensures { result ≡ self.now.point }
+    {
+        self.point
+    }
+
+    /// The cells, which are those of the model.
+    pub fn cells(&self) -> &Cells
+        ensures cells { result.now ≡ self.now.cells }
+        ensures model { IsModels self.now }
+    {
+        &self.cells
+    }
+    /// The same leaf after its time's regrid, which kept it.
+    pub fn kept(self) -> Block
+        requires fresh { IsFalse self.point.regridded }
+        requires leaf { Contains (ids_of (map_at self.case (after_regrid self.point.time))) self.id }
+        ensures { result ≡ kept_block self }
+    {
+        let Block {
+            setup,
+            point,
+            id,
+            cells,
+        } = self;
+        let point = Point {
+            time: point.time,
+            regridded: true,
+        };
+        Block {
+            setup,
+            point,
+            id,
+            cells,
+        }
+    }
+
+    /// The same leaf one step later, where the shell holds the samples around it. Blocks beside it may still need this one.
+    pub fn advanced(&self, alloc: Global, shell: &Shell) -> Result<Block, Memory>
+        requires regridded { IsTrue self.now.point.regridded }
+        requires time { self.now.point.time < self.now.case.steps }
+        requires side { shell.now.side ≡ self.now.cells.side }
+        requires samples { HoldSamples self.now.case.roots (map_at self.now.case self.now.point) self.now.id self.now.cells shell.now }
+        ensures block { IfOk result (λ block. block ≡ stepped_block self.now shell.now) }
+        ensures model { IfOk result IsModels }
+    {
+        let mut cells = Cells::filled(alloc, self.cells.side(), 0)?;
+        self.cells.kernel(shell, &mut cells);
+        let point = Point {
+            time: self.point.time + 1,
+            regridded: false,
+        };
+        Ok(Block {
+            setup: self.setup.share()?,
+            point,
+            id: self.id,
+            cells,
+        })
+    }
+
+    /// The same leaf one step later, in place of this one. Where there is no memory for its new cells, the block comes
+    /// back as it was.
+    pub fn stepped(self, alloc: Global, shell: &Shell) -> Result<Block, Kept<Block>>
+        requires regridded { IsTrue self.point.regridded }
+        requires time { self.point.time < self.case.steps }
+        requires side { shell.now.side ≡ self.cells.side }
+        requires samples { HoldSamples self.case.roots (map_at self.case self.point) self.id self.cells shell.now }
+        ensures block { IfOk result (λ block. block ≡ stepped_block self shell.now) }
+        ensures kept { IfErr result (λ kept. kept.value ≡ self) }
+    {
+        match self.advanced(alloc, shell) {
+            Ok(block) => Ok(block),
+            Err(_) => Err(Kept { value: self }),
+        }
+    }
+
+    /// An equal block, for a message or a snapshot.
+    pub fn copy(&self) -> Result<Block, Memory>
+        ensures { IfOk result (λ block. block ≡ self.now) }
+    {
+        Ok(Block {
+            setup: self.setup.share()?,
+            point: self.point,
+            id: self.id,
+            cells: self.cells.copy()?,
+        })
+    }
+}

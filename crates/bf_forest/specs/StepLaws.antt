@@ -1,0 +1,137 @@
+-- Blocks that are the model's make its map together, and a step leads to its next map.
+use Rattle.std.proofs.Common.{◌≡◌, ℕ, suc, ◌+◌, ◌<◌, true, false, List, [], ◌∷◌, length, get_or, map, Some, ◌⊎◌, inl, inr, Contains, refl, sym, ap, subst, ◌∙◌, arith, All}
+use Rattle.std.specs.List.{range_with_len}
+use Rattle.std.proofs.lemmas.Bool.{cases_Bool}
+use Rattle.std.proofs.lemmas.List.{length-map, get_or-map}
+use Rattle.std.proofs.lemmas.List.Elements.{All-map, All-weaker, All-contains, Contains-get_or}
+use Rattle.std.proofs.lemmas.List.FromFn.{length-map-range_with_len, get_or-map-range_with_len, fill_by_all}
+use Rattle.bf_id.specs.Shape.{root_count}
+use Rattle.bf_id.specs.Id.{BlockId, level_of, root_id, id_eq}
+use Rattle.bf_id.proofs.Boxes.{id_eq_is_equal}
+use Rattle.bf_id.proofs.Tilings.{Contains-none, Contains-cons_cases, Contains-from_fn_cases}
+use Rattle.bf_cells.specs.Grid.{Grid, grid_with, table}
+use Rattle.bf_case.specs.declared.case.Case.{Case}
+use Rattle.bf_case.specs.Map.{Leaf, ids_of, cells_at}
+use Rattle.bf_case.specs.Model.{root_ids, model}
+use Rattle.bf_case.specs.Sample.{cell_corner}
+use Rattle.bf_case.specs.Stencil.{stencil, stepped_value}
+use Rattle.bf_case.proofs.ListLemmas.{Contains-map}
+use Rattle.bf_case.proofs.LookupLemmas.{cells_at-leaf, leaf_from_cells_at, cells_at-stencil}
+use Rattle.bf_case.proofs.MapLemmas.{IsRootMap-model}
+use Rattle.bf_case.proofs.RootModel.{roots_of_model, model_next, cells_of_root}
+use Rattle.bf_case.proofs.RootSteps.{roots_are}
+use Rattle.bf_case.specs.Around.{grid_at, nothing}
+use Rattle.bf_block.specs.declared.point.Point.{Point}
+use Rattle.bf_block.specs.Runs.{CanRun}
+use Rattle.bf_block.specs.Block.{BlockValue, map_at, before_regrid}
+use Rattle.bf_forest.specs.Gathered.{leaf_of, cells_or, root_among, gathered, advanced, stepped_among}
+use Rattle.bf_forest.specs.Goods.{IsBlockAt}
+
+some_grid : (g h : Grid) → Some g ≡ Some h → g ≡ h
+some_grid g h same = cc
+
+-- the model has a block's cells
+pub model_cells : (c : Case) (time : ℕ) (b : BlockValue) → IsBlockAt c time b → cells_at (model c time) b.id ≡ Some b.cells
+model_cells c time b is =
+    subst (λ (p : Point). cells_at (map_at c p) b.id ≡ Some b.cells) is.at
+    (subst (λ (k : Case). cells_at (map_at k b.point) b.id ≡ Some b.cells) is.of_case is.models.leaf)
+
+-- a leaf of the model is a root
+pub root_of_leaf : (c : Case) (time : ℕ) (i : BlockId) (g : Grid) → CanRun c → cells_at (model c time) i ≡ Some g → (i ≡ root_id i.root) × (i.root < root_count c.roots)
+root_of_leaf c time i g runs found =
+    let has_id : Contains (ids_of (model c time)) i =
+    Contains-map (λ (leaf : Leaf). leaf.0) (model c time) (i, g) (leaf_from_cells_at (model c time) i g found) in
+    let its = Contains-from_fn_cases root_id (root_count c.roots) i
+    (subst (λ (ids : List BlockId). Contains ids i) (IsRootMap-model c time runs.valid runs.one_level).roots has_id) in
+    let root : i.root ≡ its.0 = ap (λ (j : BlockId). j.root) its.2 in
+    (its.2 ∙ ap root_id (sym root), rw root its.1)
+
+-- a block is a root
+pub block_root : (c : Case) (time : ℕ) (b : BlockValue) → CanRun c → IsBlockAt c time b → (b.id ≡ root_id b.id.root) × (b.id.root < root_count c.roots)
+block_root c time b runs is = root_of_leaf c time b.id b.cells runs (model_cells c time b is)
+
+-- what is found of a root among blocks is what the model has of it
+found_is_models : (c : Case) (time : ℕ) (known : List BlockValue) (i : BlockId) (g : Grid) → All (IsBlockAt c time) known
+    → cells_at (map leaf_of known) i ≡ Some g → cells_at (model c time) i ≡ Some g
+found_is_models c time known i g are found =
+    All-contains (λ (leaf : Leaf). cells_at (model c time) leaf.0 ≡ Some leaf.1) (map leaf_of known) (i, g)
+    (All-map (λ (leaf : Leaf). cells_at (model c time) leaf.0 ≡ Some leaf.1) leaf_of known
+    (All-weaker (IsBlockAt c time) (λ (b : BlockValue). cells_at (model c time) b.id ≡ Some b.cells) (λ b is. model_cells c time b is) known are))
+    (leaf_from_cells_at (map leaf_of known) i g found)
+
+-- some cells are found of an id that a leaf has
+is_found : (leaves : List Leaf) (i : BlockId) (g : Grid) → Contains leaves (i, g) → (h : Grid) × (cells_at leaves i ≡ Some h)
+is_found [] i g has = absurd (Contains-none (i, g) has)
+is_found (leaf ∷ leaves) i g has = by (cases_Bool (id_eq leaf.0 i)) (is_found leaves i g)
+  where
+    by : (id_eq leaf.0 i ≡ true) ⊎ (id_eq leaf.0 i ≡ false) → (Contains leaves (i, g) → (h : Grid) × (cells_at leaves i ≡ Some h))
+        → (h : Grid) × (cells_at (leaf ∷ leaves) i ≡ Some h)
+    by (inl passed) later = (leaf.1, rw passed refl)
+    by (inr failed) later =
+        let found = later (rest (Contains-cons_cases leaf leaves (i, g) has)) in (found.0, rw failed found.1)
+      where
+        rest : ((i, g) ≡ leaf) ⊎ Contains leaves (i, g) → Contains leaves (i, g)
+        rest (inl same) = absurd (
+            let its : leaf.0 ≡ i = ap (λ (l : Leaf). l.0) (sym same) in
+            let passed : id_eq leaf.0 i ≡ true = (id_eq_is_equal leaf.0 i).1 its in
+            let both : true ≡ false = sym passed ∙ failed in cc)
+        rest (inr in') = in'
+
+-- each root is among the blocks
+abbrev pub HasRoots : Case → List BlockValue → Type 0
+HasRoots c known = (k : ℕ) → k < root_count c.roots → (b : BlockValue) × Contains known b × (b.id.root ≡ k)
+
+root_cells : (c : Case) (time : ℕ) (known : List BlockValue) (k : ℕ) → CanRun c → All (IsBlockAt c time) known → HasRoots c known → k < root_count c.roots
+    → cells_at (model c time) (root_id k) ≡ Some (root_among known k).1
+root_cells c time known k runs are has below =
+    let b = has k below in
+    let id : b.0.id ≡ root_id k = (block_root c time b.0 runs (All-contains (IsBlockAt c time) known b.0 are b.1)).0 ∙ ap root_id b.2 in
+    let leaf : Contains (map leaf_of known) (root_id k, b.0.cells) =
+    subst (λ (i : BlockId). Contains (map leaf_of known) (i, b.0.cells)) id (Contains-map leaf_of known b.0 b.1) in
+    let found = is_found (map leaf_of known) (root_id k) b.0.cells leaf in
+    found_is_models c time known (root_id k) found.0 are found.1 ∙ ap (λ o. Some (cells_or o (grid_with 0 []))) (sym found.1)
+
+-- the blocks make the model's map together
+pub gathered_is_model : (c : Case) (time : ℕ) (known : List BlockValue) → CanRun c → All (IsBlockAt c time) known → HasRoots c known
+    → gathered c known ≡ model c time
+unfolding gathered
+gathered_is_model c time known runs are has =
+    let leaves = model c time in
+    let roots = roots_are c.roots leaves (roots_of_model c time runs.valid runs.one_level) in
+    sym (fill_by_all (root_among known) leaves (root_count c.roots) nothing roots.0 (λ k below. same k below (roots.1 k nothing below)))
+  where
+    same : (k : ℕ) → k < root_count c.roots → (get_or (model c time) k nothing).0 ≡ root_id k → get_or (model c time) k nothing ≡ root_among known k
+    same k below id =
+        let cells : grid_at (model c time) k ≡ (root_among known k).1 =
+        some_grid (grid_at (model c time) k) (root_among known k).1
+        (sym (cells_of_root c time k runs.valid runs.one_level below) ∙ root_cells c time known k runs are has below) in
+        λ j. (id j, cells j)
+
+-- a block one step later
+advanced_is : (c : Case) (time : ℕ) (b : BlockValue) → CanRun c → IsBlockAt c time b → IsBlockAt c (time + 1) (advanced (stencil c.roots c.side (model c time)) b)
+advanced_is c time b runs is =
+    let after = stencil c.roots c.side (model c time) in
+    let cells : Grid = table c.side (λ x y z. stepped_value c.roots c.side (model c time) (level_of b.id) (cell_corner c.roots c.side b.id x y z)) in
+    let found : cells_at after b.id ≡ Some cells =
+    cells_at-stencil c.roots c.side (model c time) b.id b.cells (IsRootMap-model c time runs.valid runs.one_level).map (model_cells c time b is) in
+    let point : before_regrid (b.point.time + 1) ≡ before_regrid (time + 1) = ap (λ (p : Point). before_regrid (p.time + 1)) is.at in
+    let new : cells_at (map_at c (before_regrid (time + 1))) b.id ≡ Some (cells_or (cells_at after b.id) b.cells) =
+    ap (λ (l : List Leaf). cells_at l b.id) (model_next c time runs.valid runs.one_level) ∙ found ∙ ap (λ o. Some (cells_or o b.cells)) (sym found) in
+    record {
+      of_case = is.of_case;
+      at = point;
+      models = record {
+        leaf = subst (λ (k : Case). cells_at (map_at k (before_regrid (b.point.time + 1))) b.id ≡ Some (cells_or (cells_at after b.id) b.cells)) (sym is.of_case)
+            (subst (λ (p : Point). cells_at (map_at c p) b.id ≡ Some (cells_or (cells_at after b.id) b.cells)) (sym point) new);
+      };
+    }
+
+-- a rank's blocks one step later, where it knows of all blocks
+pub stepped_are : (c : Case) (time : ℕ) (known blocks : List BlockValue) → CanRun c → All (IsBlockAt c time) known → HasRoots c known → All (IsBlockAt c time) blocks
+    → All (IsBlockAt c (time + 1)) (stepped_among c known blocks)
+unfolding stepped_among
+stepped_are c time known blocks runs are has own =
+    subst (λ (leaves : List Leaf). All (IsBlockAt c (time + 1)) (map (advanced (stencil c.roots c.side leaves)) blocks))
+    (sym (gathered_is_model c time known runs are has))
+    (All-map (IsBlockAt c (time + 1)) (advanced (stencil c.roots c.side (model c time))) blocks
+    (All-weaker (IsBlockAt c time) (λ b. IsBlockAt c (time + 1) (advanced (stencil c.roots c.side (model c time)) b)) (λ b is. advanced_is c time b runs is) blocks own))

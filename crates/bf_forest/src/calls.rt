@@ -1,0 +1,107 @@
+ghost use Rattle.std.specs.Prelude.{◌≡◌, IfOk, OnOk};
+ghost use Rattle.bf_block.specs.Setup.{case_of};
+ghost use Rattle.bf_parts.specs.Sides.{regained};
+ghost use Rattle.bf_forest.specs.Meanings.{death_of, told, heard_of, ended, restored};
+
+use crate::blocks::{append, copies};
+use crate::{ForestLocal, ForestMessage, Stage};
+use bf_block::{Block, Memory, Setup};
+use bf_buddy::Members;
+use bf_items::Items;
+use bf_parts::{Side, gives, source_of};
+use bf_program::Epoch;
+use std::alloc::Global;
+
+/// After how many events a rank dies, if it is to die.
+pub fn death_of(deaths: &[(u32, u32)], rank: u32) -> Option<u32>
+    ensures { result ≡ death_of deaths.now rank }
+{
+    for death in deaths {
+        if death.0 == rank {
+            return Some(death.1);
+        }
+    }
+    None
+}
+
+/// The message to a peer: copies of all blocks, or the part of the new snapshot for the buddy.
+#[tactic(auto, unfolding(crate::specs::Meanings::told))]
+pub fn told(
+    alloc: Global,
+    stage: Stage,
+    members: Members,
+    shift: u32,
+    local: &ForestLocal,
+    to: u32,
+) -> Result<ForestMessage, Memory>
+    ensures { IfOk result (λ msg. msg ≡ told stage members shift local.now to) }
+{
+    match stage {
+        Stage::Step => Ok(ForestMessage::Step(copies(alloc, local.blocks.as_slice())?)),
+        Stage::Snapshot => Ok(ForestMessage::Snapshot(if gives(members, shift, local.rank, to) {
+            Some(copies(alloc, local.blocks.as_slice())?)
+        } else {
+            None
+        })),
+    }
+}
+
+/// Takes a peer's message.
+#[tactic(auto, unfolding(crate::specs::Meanings::heard_of))]
+pub fn hear(local: &mut ForestLocal, msg: ForestMessage) -> Result<(), Memory>
+    ensures { OnOk result (local.new ≡ heard_of local.old msg) }
+{
+    match msg {
+        ForestMessage::Step(blocks) => append(&mut local.heard, blocks),
+        ForestMessage::Snapshot(Some(part)) => {
+            local.spare.other = part;
+            Ok(())
+        }
+        ForestMessage::Snapshot(None) => Ok(()),
+    }
+}
+
+/// Makes the new snapshot.
+#[tactic(auto, unfolding(crate::specs::Meanings::ended))]
+pub fn snap(
+    alloc: Global,
+    setup: &Setup,
+    local: &mut ForestLocal,
+    epoch: Epoch,
+) -> Result<(), Memory>
+    ensures { OnOk result (local.new ≡ ended Stage.Snapshot (case_of setup.now) epoch local.old) }
+{
+    local.spare.own = copies(alloc, local.blocks.as_slice())?;
+    local.spare.time = epoch.target;
+    local.spare.source = source_of(epoch.members, setup.shift(), local.rank);
+    local.spare.homes = epoch.members;
+    Ok(())
+}
+
+// The blocks of a side that a rank goes on with.
+fn regained(alloc: Global, side: &Side<Block>, live: Members) -> Result<Items<Block>, Memory>
+    ensures { IfOk result (λ items. items ≡ regained side.now live) }
+{
+    let mut items = copies(alloc, side.own.as_slice())?;
+    if !live.has(side.source) {
+        append(&mut items, copies(alloc, side.other.as_slice())?)?;
+    }
+    Ok(items)
+}
+
+/// Goes back to the agreed snapshot, as one of the live.
+#[tactic(auto, unfolding(crate::specs::Meanings::restored))]
+pub fn go_back(
+    alloc: Global,
+    local: &mut ForestLocal,
+    rank: u32,
+    live: Members,
+) -> Result<(), Memory>
+    ensures { OnOk result (local.new ≡ restored local.old.active rank live) }
+{
+    local.blocks = regained(alloc, &local.active, live)?;
+    local.rank = rank;
+    local.heard.clear();
+    local.spare.clear();
+    Ok(())
+}

@@ -1,0 +1,7 @@
+//! Keyed items that members of a run keep, with the two sides of their snapshots.
+#![tactic(auto)]
+
+mod side;
+
+pub use bf_items::Items;
+pub use side::{Side, gives, source_of};

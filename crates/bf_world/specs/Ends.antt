@@ -1,0 +1,19 @@
+-- What is said of how runs end.
+use Rattle.std.specs.Prelude.{◌≡◌, ℕ, ◌<◌, Bool, true, false, None}
+use Rattle.bf_program.specs.Meanings.{Meanings}
+use Rattle.bf_core.specs.declared.event.Event.{Event}
+use Rattle.bf_core.specs.declared.event.Event.TheVariants.{Send, Recv, Arrive, Leave, Die}
+use Rattle.bf_core.specs.declared.event.How.TheVariants.{Broken}
+
+-- no rank is scheduled to die
+abbrev pub NobodyDies : {S L M T R : Type 0} → Meanings S L M T R → S → Type 0
+NobodyDies m setup = (rank : ℕ) → rank < m.ranks setup → m.death setup rank ≡ None
+
+-- whether an event tells of a death: it is one, or an arrival that is broken by one
+abbrev pub tells_of_death : Event → Bool
+tells_of_death (Send rank to blocks sum) = false
+tells_of_death (Recv rank peer) = false
+tells_of_death (Arrive rank Broken) = true
+tells_of_death (Arrive rank _) = false
+tells_of_death (Leave rank) = false
+tells_of_death (Die rank) = true
