@@ -2,6 +2,7 @@
 #![tactic(auto)]
 
 mod driven;
+pub mod laws;
 mod parcels;
 
 pub use driven::run;
