@@ -1,6 +1,7 @@
 //! Keyed items that members of a run keep, with the two sides of their snapshots.
 #![tactic(auto)]
 
+pub mod laws;
 mod side;
 
 pub use bf_items::Items;
