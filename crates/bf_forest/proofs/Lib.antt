@@ -1,1 +1,5 @@
 pub mod PlaceSteps
+pub mod Stepping
+pub mod Readying
+pub mod OpeningSteps
+pub mod Finishing

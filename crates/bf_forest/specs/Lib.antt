@@ -17,4 +17,5 @@ pub mod GoodLaws
 pub mod StoredLaws
 pub mod PieceLaws
 pub mod Known
+pub mod Ready
 pub mod ForestLaws

@@ -56,13 +56,15 @@ heard_of local (SnapshotMessage (Some part)) = record local { spare = record loc
 -- the local at the end of a round
 unfoldable pub ended : Stage → Case → Epoch → ForestLocal → ForestLocal
 ended Step c epoch local = record local { blocks = stepped_among c (local.blocks ++ local.heard) local.blocks; heard = [] }
-ended Snapshot c epoch local = record local { spare = record {
-      time = epoch.target;
-      homes = epoch.members;
-      source = source_of epoch.members c.shift local.rank;
-      own = local.blocks;
-      other = local.spare.other;
-    } }
+ended Snapshot c epoch local = record local {
+  spare = record {
+    time = epoch.target;
+    homes = epoch.members;
+    source = source_of epoch.members c.shift local.rank;
+    own = local.blocks;
+    other = local.spare.other;
+  };
+}
 
 -- a rank's local after a restore
 unfoldable pub restored : Side BlockValue → (rank : ℕ) → (live : List ℕ) → ForestLocal

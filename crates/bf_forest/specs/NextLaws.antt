@@ -52,7 +52,7 @@ known_to epoch locals local = local.blocks ++ (local.heard ++ flat_map (blocks_a
 
 module _ (setup : Setup) (epoch : Epoch) (round : ℕ) (locals : List ForestLocal) (good : IsGood setup epoch round locals) (rank : ℕ) (local : ForestLocal) where
   -- they are the model's
-  known_models : IsSeat setup epoch round good.shared.owner good.shared.home_of rank local
+  pub known_models : IsSeat setup epoch round good.shared.owner good.shared.home_of rank local
       → All (IsBlockAt (case_of setup) (time_at epoch round)) (known_to epoch locals local)
   known_models seat =
       let P : BlockValue → Type 0 = IsBlockAt (case_of setup) (time_at epoch round) in
@@ -64,7 +64,7 @@ module _ (setup : Setup) (epoch : Epoch) (round : ℕ) (locals : List ForestLoca
       (seats_of setup epoch round locals good) (λ r l its. its.1.blocks))))
 
   -- each root is among them
-  known_roots : IsSeat setup epoch round good.shared.owner good.shared.home_of rank local → HasRoots (case_of setup) (known_to epoch locals local)
+  pub known_roots : IsSeat setup epoch round good.shared.owner good.shared.home_of rank local → HasRoots (case_of setup) (known_to epoch locals local)
   known_roots seat k below =
       subst (λ (blocks : List BlockValue). (b : BlockValue) × Contains blocks b × (b.id.root ≡ k)) known
       (key_among (λ (b : BlockValue). b.id.root) (root_count (case_of setup).roots) good.shared.owner
@@ -192,13 +192,15 @@ module _ (setup : Setup) (epoch : Epoch) (round : ℕ) (locals : List ForestLoca
 
   -- the local after the snapshot's round
   abbrev pub snapped_local : List BlockValue → ForestLocal
-  snapped_local part = record local { spare = record {
-        time = epoch.target;
-        homes = epoch.members;
-        source = source_of epoch.members (case_of setup).shift local.rank;
-        own = local.blocks;
-        other = part;
-      } }
+  snapped_local part = record local {
+    spare = record {
+      time = epoch.target;
+      homes = epoch.members;
+      source = source_of epoch.members (case_of setup).shift local.rank;
+      own = local.blocks;
+      other = part;
+    };
+  }
 
   snapshot_after : span epoch ≤ round → (has : HasHeard) → after_round forest setup epoch round locals rank local ≡ snapped_local has.part
   unfolding ended

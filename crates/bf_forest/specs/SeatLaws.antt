@@ -93,6 +93,9 @@ key_among {L = L} {I = I} key count owner R items members locals rank own k each
         let peer : is_member (without members rank) (owner k) ≡ true =
         member_filter (λ member. not (member == rank)) members (owner k) ∙ (let both : (is_member members (owner k) && not (owner k == rank)) ≡ true = rw (is_in, other) refl in both) in
         let there : Contains (items_at items members locals (owner k)) found.0 =
-        (let same : items_at items members locals (owner k) ≡ items seat.0 = ap (λ o. option_map_or items o []) seat.1 in rw same found.1) in
-        (found.0, Contains-append_right own others found.0
-        (Contains-flat_map (items_at items members locals) (without members rank) (owner k) found.0 (member_contains (without members rank) (owner k) peer) there), found.2)
+        (let same : items_at items members locals (owner k) ≡ items seat.0 = ap (λ o. option_map_or items o []) seat.1 in rw same found.1) in (
+          found.0,
+          Contains-append_right own others found.0
+              (Contains-flat_map (items_at items members locals) (without members rank) (owner k) found.0 (member_contains (without members rank) (owner k) peer) there),
+          found.2,
+        )

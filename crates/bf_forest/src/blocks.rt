@@ -3,7 +3,7 @@ ghost use Rattle.std.specs.Prelude.{◌≡◌, ◌++◌, ◌%◌, ◌^◌, IfOk,
 ghost use Rattle.bf_forest.specs.Meanings.{measured};
 
 use bf_block::{Block, Memory};
-use bf_parts::Items;
+use bf_items::Items;
 use bf_program::Measure;
 use std::alloc::Global;
 

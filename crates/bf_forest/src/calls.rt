@@ -7,7 +7,8 @@ use crate::blocks::{append, copies};
 use crate::{ForestLocal, ForestMessage, Stage};
 use bf_block::{Block, Memory, Setup};
 use bf_buddy::Members;
-use bf_parts::{Items, Side, gives, source_of};
+use bf_items::Items;
+use bf_parts::{Side, gives, source_of};
 use bf_program::Epoch;
 use std::alloc::Global;
 
@@ -37,13 +38,11 @@ pub fn told(
 {
     match stage {
         Stage::Step => Ok(ForestMessage::Step(copies(alloc, local.blocks.as_slice())?)),
-        Stage::Snapshot => Ok(ForestMessage::Snapshot(
-            if gives(members, shift, local.rank, to) {
-                Some(copies(alloc, local.blocks.as_slice())?)
-            } else {
-                None
-            },
-        )),
+        Stage::Snapshot => Ok(ForestMessage::Snapshot(if gives(members, shift, local.rank, to) {
+            Some(copies(alloc, local.blocks.as_slice())?)
+        } else {
+            None
+        })),
     }
 }
 

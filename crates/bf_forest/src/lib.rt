@@ -7,8 +7,13 @@ mod calls;
 mod known;
 mod local;
 mod message;
+mod opening;
+mod program;
 mod stage;
+mod step;
 
 pub use local::ForestLocal;
 pub use message::ForestMessage;
+pub use opening::load;
+pub use program::Forest;
 pub use stage::Stage;

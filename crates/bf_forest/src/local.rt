@@ -1,5 +1,6 @@
 use bf_block::Block;
-use bf_parts::{Items, Side};
+use bf_items::Items;
+use bf_parts::Side;
 
 /// What one rank holds.
 #[derive(Drop)]

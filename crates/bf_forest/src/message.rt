@@ -1,5 +1,5 @@
 use bf_block::Block;
-use bf_parts::Items;
+use bf_items::Items;
 
 /// What one rank sends another in a round.
 #[derive(Drop)]

@@ -131,5 +131,5 @@ module _ {S L M T R : Type 0} (m : Meanings S L M T R) (setup : S) where
         ∙ sym (parcels_when_settled (run_happened m setup run event))
         ∙ ap (λ b. (if b then run_settled m setup (run_happened m setup run event) else run_happened m setup run event).parcels) (sym may)
 
-    pub restores_told : (before : ℕ) → restores_settled after rank before ≡ (if brings_restore m setup run event then min (before + 1) 4294967295 else before)
-    restores_told before = ap (λ b. if b then min (before + 1) 4294967295 else before) restore_told
+    pub restores_told : (before : ℕ) → restores_settled after rank before ≡ (if brings_restore m setup run event then before + 1 else before)
+    restores_told before = ap (λ b. if b then before + 1 else before) restore_told

@@ -161,7 +161,7 @@ module _ {S L M T R : Type 0} (m : Meanings S L M T R) (good : S → Epoch → �
       pub world_next : AreQueuesOf m setup (next_run m setup (run_after m setup noted.events) event) waiting_later
           → parcels_later ≡ (next_run m setup (run_after m setup noted.events) event).parcels
           → room_needed core_later ≤ later.room
-          → restores_later ≡ (if brings_restore m setup (run_after m setup noted.events) event then min (restores + 1) 4294967295 else restores)
+          → restores_later ≡ (if brings_restore m setup (run_after m setup noted.events) event then restores + 1 else restores)
           → IsWorld m setup core_later waiting_later later parcels_later restores_later
       world_next queues parcels_are room restores_are =
           let P : List Event → Type 0 = λ events. IsWorld m setup core_later waiting_later (record { events = events; room = later.room }) parcels_later restores_later in
@@ -173,6 +173,6 @@ module _ {S L M T R : Type 0} (m : Meanings S L M T R) (good : S → Epoch → �
             parcels_are = parcels_are ∙ ap (λ r. r.parcels) (sym is);
             room = room;
             restores_are = restores_are
-                ∙ ap (λ n. if brings_restore m setup run event then min (n + 1) 4294967295 else n) world.restores_are
+                ∙ ap (λ n. if brings_restore m setup run event then n + 1 else n) world.restores_are
                 ∙ sym (restores_more m setup noted.events event);
           })

@@ -134,7 +134,7 @@ impl<P: RankProgram> World<P> {
         self.journal.events()
     }
 
-    /// How many restores there were. The count stands still at its type's end.
+    /// How many restores there were: less than there are ranks, since each leaves a member behind.
     pub fn restores(&self) -> u32
         ensures { result ≡ restores_in P.meanings self.now.setup self.now.journal }
     {
@@ -292,10 +292,10 @@ impl<P: RankProgram> World<P> {
         ensures kept { IfErr result (λ kept. kept.value ≡ parcel) }
     {
         let more = room_for(&self.queues);
-        if self.journal.reserve(more).is_err() || self.parcels.reserve(1).is_err() {
+        if self.journal.reserve(more).is_err() {
             return Err(Kept { value: parcel });
         }
-        give(&mut self.parcels, rank, parcel);
+        give(&mut self.parcels, rank, parcel)?;
         let event = Event::Arrive {
             rank,
             how: How::Done,

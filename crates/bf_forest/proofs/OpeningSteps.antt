@@ -1,0 +1,66 @@
+-- The blocks and locals of the opening, as they are made.
+use Rattle.std.proofs.Common.{◌≡◌, ◌≢◌, ℕ, ◌+◌, ◌<◌, ◌≤◌, Bool, true, false, cond, List, [], ◌∷◌, ◌++◌, length, map, get_or, refl, sym, ap, ◌∙◌, arith}
+use Rattle.std.specs.Prelude.{IsTrue, filter, ◌==◌}
+use Rattle.std.specs.List.{range_with_len}
+use Rattle.std.proofs.lemmas.Bool.Decides.{nat_tests}
+use Rattle.std.proofs.lemmas.List.{map-append, append-nil}
+use Rattle.std.proofs.lemmas.List.Elements.{filter-append}
+use Rattle.std.proofs.lemmas.List.FromFn.{length-map-range_with_len, get_or-map-range_with_len, map-range_with_len_more, filter_of_map_range_with_len_more}
+use Rattle.bf_buddy.specs.Members.{is_member}
+use Rattle.bf_case.specs.declared.case.Case.{Case}
+use Rattle.bf_case.specs.Case.{first_rank_of}
+use Rattle.bf_block.specs.Block.{BlockValue, initial_block}
+use Rattle.bf_parts.specs.Seats.{range_has, range_within}
+use Rattle.bf_forest.specs.declared.local.ForestLocal.{ForestLocal}
+use Rattle.bf_forest.specs.Meanings.{first_blocks, opened}
+
+-- the roots below one that begin at a rank
+abbrev pub roots_at : Case → (rank root : ℕ) → List BlockValue
+roots_at c rank root = map (initial_block c) (filter (λ r. first_rank_of c r == rank) (range_with_len 0 root))
+
+more_of : (test : ℕ → Bool) (n : ℕ) → filter test (range_with_len 0 (n + 1)) ≡ filter test (range_with_len 0 n) ++ cond (test n) (n ∷ []) []
+more_of test n =
+    ap (filter test) (sym (mapped (range_with_len 0 (n + 1)))) ∙ filter_of_map_range_with_len_more test (λ r. r) 0 n n (omega arith)
+    ∙ ap (λ l. filter test l ++ cond (test n) (n ∷ []) []) (mapped (range_with_len 0 n))
+  where
+    mapped : (l : List ℕ) → map (λ r. r) l ≡ l
+    mapped [] = refl
+    mapped (x ∷ l) = ap (λ m. x ∷ m) (mapped l)
+
+pub root_taken : (c : Case) (rank root first : ℕ) (blocks : List BlockValue) (b : BlockValue) → first ≡ first_rank_of c root → first ≡ rank → b ≡ initial_block c root
+    → blocks ≡ roots_at c rank root → blocks ++ b ∷ [] ≡ roots_at c rank (root + 1)
+root_taken c rank root first blocks b is here made before =
+    let test : (first_rank_of c root == rank) ≡ true = let same : first_rank_of c root ≡ rank = sym is ∙ here in grind (arith, nat_tests) in
+    ap (λ l. l ++ b ∷ []) before ∙ ap (λ (v : BlockValue). roots_at c rank root ++ v ∷ []) made
+    ∙ sym (ap (map (initial_block c)) (more_of (λ r. first_rank_of c r == rank) root ∙ ap (λ t. filter (λ r. first_rank_of c r == rank) (range_with_len 0 root) ++ cond t (root ∷ []) []) test)
+    ∙ map-append (initial_block c) (filter (λ r. first_rank_of c r == rank) (range_with_len 0 root)) (root ∷ []))
+
+pub root_passed : (c : Case) (rank root first : ℕ) (blocks : List BlockValue) → first ≡ first_rank_of c root → first ≢ rank
+    → blocks ≡ roots_at c rank root → blocks ≡ roots_at c rank (root + 1)
+root_passed c rank root first blocks is other before =
+    let test : (first_rank_of c root == rank) ≡ false = let differ : first_rank_of c root ≢ rank = λ same. other (is ∙ same) in grind (arith, nat_tests) in
+    before
+    ∙ sym (ap (map (initial_block c)) (more_of (λ r. first_rank_of c r == rank) root ∙ ap (λ t. filter (λ r. first_rank_of c r == rank) (range_with_len 0 root) ++ cond t (root ∷ []) []) test
+    ∙ append-nil (filter (λ r. first_rank_of c r == rank) (range_with_len 0 root))))
+
+-- one more of a list by its numbers
+pub next_made : {X : Type 0} (f : ℕ → X) (n : ℕ) (made : List X) (x : X) → made ≡ map f (range_with_len 0 n) → x ≡ f n → made ++ x ∷ [] ≡ map f (range_with_len 0 (n + 1))
+next_made {X = X} f n made x before is =
+    ap (λ l. l ++ x ∷ []) before ∙ ap (λ (y : X). map f (range_with_len 0 n) ++ y ∷ []) is ∙ sym (map-range_with_len_more f 0 n n (omega arith))
+
+-- ranks of a run are members at the opening
+pub rank_in : (ranks rank : ℕ) → rank < ranks → IsTrue (is_member (range_with_len 0 ranks) rank)
+rank_in ranks rank below = range_has ranks rank below
+
+pub rank_below : (ranks rank : ℕ) → IsTrue (is_member (range_with_len 0 ranks) rank) → rank < ranks
+rank_below ranks rank is_in = let below : rank < 0 + ranks = range_within 0 ranks rank is_in in omega arith
+
+pub ruleset opening_steps = (rank_in, rank_below)
+
+-- the list that a rank's place has
+pub first_at : (c : Case) (firsts : List (List BlockValue)) (rank : ℕ) (d : List BlockValue) → firsts ≡ map (first_blocks c) (range_with_len 0 c.ranks) → rank < c.ranks
+    → (rank < length firsts) × (get_or firsts rank d ≡ first_blocks c rank)
+first_at c firsts rank d is below = (
+  omega (arith, ap length is, length-map-range_with_len (first_blocks c) 0 c.ranks),
+  ap (λ (l : List (List BlockValue)). get_or l rank d) is ∙ get_or-map-range_with_len (first_blocks c) 0 c.ranks rank rank d below (omega arith),
+)

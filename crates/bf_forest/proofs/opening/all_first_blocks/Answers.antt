@@ -1,0 +1,10 @@
+use Rattle.std.proofs.Common.{◌∙◌}
+use Rattle.bf_block.specs.Setup.{case_of}
+use Rattle.bf_forest.specs.Meanings.{first_blocks}
+use Rattle.bf_forest.proofs.OpeningSteps.{next_made}
+use Rattle.bf_forest.proofs.opening.all_first_blocks.Goals as goal
+
+pub loop-rank-preserved : goal.loop-rank-preserved
+loop-rank-preserved c =
+    c.in_ok-push.ensures.items
+    ∙ next_made (first_blocks (case_of c.args.setup.now)) c.loop-rank.rank c.loop-rank.firsts.items _ c.loop-rank.invariant c.in_ok-first_blocks.ensures
