@@ -6,3 +6,6 @@ mod side;
 
 pub use bf_items::Items;
 pub use side::{Side, gives, source_of};
+
+#[cfg(test)]
+mod tests;
