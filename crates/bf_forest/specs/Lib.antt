@@ -18,3 +18,4 @@ pub mod PieceLaws
 pub mod Known
 pub mod Ready
 pub mod ForestLaws
+pub mod Starts

@@ -171,3 +171,19 @@ fn the_most_ranks_take_the_most_steps(rt: HostRuntime) -> Result<(), Fail> {
     }
     Ok(())
 }
+
+// Five worlds of the most ranks and steps, each with other buddies: 5 * 253,952 events are 1,269,760. The buddies change
+// no value.
+#[test]
+fn five_worlds_have_more_than_a_million_events(rt: HostRuntime) -> Result<(), Fail> {
+    let mut events = 0usize;
+    for shift in 0..5u32 {
+        let setup = TallySetup::new(32, 32, 128, 16, shift, [None; 32]);
+        let world = run(rt.alloc(), setup, &[])?;
+        assert_eq!(rt; world.outcome(), Some(Outcome::Finished));
+        assert!(rt; is_given(world.parcels(), 0, 2_693_826_561));
+        events = events.wrapping_add(world.journal().len());
+    }
+    assert!(rt; events > 1_269_760);
+    Ok(())
+}

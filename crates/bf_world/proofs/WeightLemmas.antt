@@ -3,7 +3,7 @@ use Rattle.std.proofs.Common.{◌≡◌, ◌≢◌, ℕ, zero, suc, ◌+◌, ◌
 use Rattle.std.specs.Prelude.{◌==◌, Option, Some, None, is_some, if◌then◌else◌, slice_get}
 use Rattle.std.specs.List.{range_with_len}
 use Rattle.std.proofs.Math.Nat.{mul-le-mul_left}
-use Rattle.std.proofs.lemmas.Bool.{cases_eq, eqb-true, eq-eqb, ltb-true, ltb-false}
+use Rattle.std.proofs.lemmas.Bool.{cases_eq, eq-eqb, ltb-true, ltb-false}
 use Rattle.std.proofs.lemmas.List.{get_or-set_same, get_or-set_other}
 use Rattle.std.proofs.lemmas.List.Sums.{sum_by-le-sum_by}
 use Rattle.std.proofs.lemmas.List.FromFn.{length-range_with_len}
@@ -42,7 +42,7 @@ use Rattle.bf_world.specs.Runs.{Run, place, begun, last_locals, deaths, opening_
 use Rattle.bf_world.specs.Worlds.{is_restore, brings_decision, brings_restore, restores_from, restores_in}
 use Rattle.bf_world.proofs.StopLemmas.{no_restore}
 use Rattle.bf_world.specs.Weights.{peers_left, steps_left, left_of, epochs_left, most_left, left_of_rank, total, bound, weight}
-use Rattle.bf_world.proofs.LawfulLemmas.{IsSteady, IsLawful, next_lawful, opening_lawful, after_lawful, core_next}
+use Rattle.bf_world.proofs.LawfulLemmas.{just, IsSteady, IsLawful, next_lawful, opening_lawful, after_lawful, core_next}
 use Rattle.bf_world.proofs.PeerLemmas.{peers_rise, peer_is_other}
 use Rattle.bf_world.proofs.PlaceLemmas.{IsPlaced, receives_at}
 use Rattle.bf_world.proofs.RangeLemmas.{sums_less, sums_most, rising_few, filter_fewer}
@@ -421,11 +421,6 @@ module _ {S L M T R : Type 0} (m : Meanings S L M T R) (setup : S) where
         places = slice_set run.places rank to;
         parcels = parcels;
       }
-
--- the number that there may be
-just : (o : Option ℕ) (n : ℕ) → is_just o n ≡ true → o ≡ Some n
-just (Some k) n same = ap Some (eqb-true k n same)
-just None n none = absurd (cc)
 
 epochs_same : (state : State) (event : Event) (filled : Bool) → epochs_left (happened state event filled) ≡ epochs_left state
 unfolding epochs_left

@@ -1,5 +1,5 @@
 -- What an arrival or a death leaves beside the core, told from the state after it.
-use Rattle.std.specs.Prelude.{ℕ, ◌+◌, Bool, ◌&&◌, ◌||◌, not, if◌then◌else◌, List, [], ◌∷◌, Option, Some, None, is_some, min}
+use Rattle.std.specs.Prelude.{ℕ, ◌+◌, Bool, ◌&&◌, ◌||◌, not, if◌then◌else◌, List, [], ◌∷◌, Option, Some, None, is_some}
 use Rattle.bf_core.specs.Stages.{is_arrived, is_dead}
 use Rattle.bf_core.specs.States.{State, stage}
 use Rattle.bf_world.specs.declared.answers.Got.{Got}

@@ -1,5 +1,5 @@
 //! Laws of every run, each the contract of a call that does nothing.
-ghost use Rattle.std.specs.Prelude.{◌≡◌, ◌≢◌, ℕ, ◌<◌, ◌≤◌, ◌⊎◌, false, IsTrue, List, [], ◌∷◌, ◌++◌, length, Some, is_some, IsPermutation};
+ghost use Rattle.std.specs.Prelude.{◌≡◌, ◌≢◌, ℕ, ◌+◌, ◌<◌, ◌≤◌, ◌⊎◌, false, IsTrue, List, [], ◌∷◌, ◌++◌, length, Some, is_some, IsPermutation};
 ghost use Rattle.std.specs.List.{list_any};
 ghost use Rattle.bf_buddy.specs.Members.{is_member};
 ghost use Rattle.bf_core.specs.declared.event.Event.{Event};
@@ -113,4 +113,10 @@ pub fn an_event_lowers_what_is_left<P: RankProgram>()
 pub fn a_journal_is_bounded<P: RankProgram>()
     ensures { (setup : P.Setup) (journal : List Event) → IsTrue (is_journal P.meanings setup journal)
         → length journal ≤ weight P.meanings setup (opening_run P.meanings setup) }
+{}
+
+/// Each restore leaves a member behind.
+pub fn each_restore_leaves_a_member_behind<P: RankProgram>()
+    ensures { (setup : P.Setup) (journal : List Event) → IsTrue (is_journal P.meanings setup journal)
+        → restores_in P.meanings setup journal + length (core_after P.meanings setup journal).epoch.members ≤ P.meanings.ranks setup }
 {}
