@@ -17,3 +17,6 @@ pub use message::ForestMessage;
 pub use opening::load;
 pub use program::Forest;
 pub use stage::Stage;
+
+#[cfg(test)]
+mod tests;
