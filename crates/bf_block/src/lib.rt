@@ -10,6 +10,7 @@ pub mod laws;
 mod opening;
 mod point;
 mod setup;
+mod shared_case;
 
 pub use block::Block;
 pub use kept::Kept;

@@ -8,12 +8,11 @@ use Rattle.bf_case.specs.CaseText.{case_text}
 abbrev pub input_limit : ℕ
 input_limit = 1048576
 
--- the cases that are served so far: one level, and no deaths and no order
+-- the cases that are served so far: one level, and no deaths
 pub record IsServed (c : Case) : Type 0 where
   pub valid : IsValid c
   pub one_level : c.levels ≡ 0
   pub no_deaths : c.dies ≡ []
-  pub no_order : c.order ≡ []
 
 -- the bytes are the canonical text of this case, which is served
 pub record Spells (bytes : List ℕ) (c : Case) : Type 0 where

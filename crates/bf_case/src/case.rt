@@ -1,6 +1,6 @@
-use bf_items::Items;
 use crate::validity::{are_deaths, are_fills, are_ranks, are_rising, cells_of, is_shape, roots_of};
 use bf_id::Shape;
+use bf_items::Items;
 
 /// A box of cells and the value that it is filled with; both corners are included.
 #[derive(Clone, Copy, Debug, PartialEq, Eq)]

@@ -13,8 +13,8 @@ mod neighbours;
 pub mod rows;
 mod validity;
 
+pub use bf_items::Items;
 pub use case::{Case, Fill};
 pub use filling::filled_root;
-pub use bf_items::Items;
 pub use map::Map;
 pub use neighbours::{RootCells, surround};

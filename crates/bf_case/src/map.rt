@@ -1,6 +1,6 @@
-use bf_items::Items;
 use bf_cells::Cells;
 use bf_id::Id;
+use bf_items::Items;
 
 /// The leaves of a forest with their cells, at one time. They stand in rising order of their ids.
 #[derive(Drop)]

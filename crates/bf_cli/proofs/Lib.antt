@@ -4,6 +4,7 @@ pub mod Front
 pub mod Lines
 pub mod Heads
 pub mod FillLines
+pub mod OrderLines
 pub mod Texts
 pub mod PageLemmas
 pub mod RunLoop

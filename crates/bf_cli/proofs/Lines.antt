@@ -55,7 +55,7 @@ both_readers {A = A} {B = B} {first = first} {second = second} {t = t} {u = u} {
       ∙ both_again first second (t x.0 ++ (u x.1 ++ rest)) (u x.1 ++ rest) rest x.0 x.1 (p.again x.0 (u x.1 ++ rest) fits.0) (q.again x.1 rest fits.1);
 }
 
-spaced-append : (ns ms rest : List ℕ) → spaced (ns ++ ms) ++ rest ≡ spaced ns ++ (spaced ms ++ rest)
+pub spaced-append : (ns ms rest : List ℕ) → spaced (ns ++ ms) ++ rest ≡ spaced ns ++ (spaced ms ++ rest)
 spaced-append ns ms rest = ap (λ (t : List ℕ). t ++ rest) (flat_map-append (λ n. 32 ∷ decimal n) ns ms) ∙ append_assoc (spaced ns) (spaced ms) rest
 
 pub both_numbers : {A B : Type 0} {first : Reader A} {second : Reader B} {l : A → List ℕ} {m : B → List ℕ} {F : A → Type 0} {G : B → Type 0}

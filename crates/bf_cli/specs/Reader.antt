@@ -4,7 +4,7 @@ use Rattle.std.specs.List.{AllByRecursion}
 use Rattle.std.specs.Char.{is_ascii_digit}
 use Rattle.bf_case.specs.declared.case.Case.{Case}
 use Rattle.bf_case.specs.declared.case.Fill.{Fill}
-use Rattle.bf_case.specs.CaseText.{case_text, fill_text}
+use Rattle.bf_case.specs.CaseText.{case_text, fill_text, order_text}
 use Rattle.bf_case.specs.Reading.{Spells, IsRefused, IsServed}
 use Rattle.bf_cli.specs.declared.reader.Reading.{Reading}
 use Rattle.bf_cli.specs.declared.reader.Reading.TheVariants as readings
@@ -173,9 +173,27 @@ pub record BeginWithAll (bytes : List ℕ) (fills : List Fill) (rest : List ℕ)
   pub lines : BeginWith bytes fills rest
   pub no_more : fill_line rest ≡ None
 
--- a case with these fills and none of the lines after them
-abbrev pub case_of : Head → List Fill → Case
-case_of h fills = record {
+-- these numbers are read one after another, each after a blank, and then no other
+abbrev pub ReadsNumbers : List ℕ → List ℕ → List ℕ → Type 0
+ReadsNumbers bytes [] last = (spaced_number bytes ≡ None) × (last ≡ bytes)
+ReadsNumbers bytes (n ∷ ns) last = (rest : List ℕ) × (spaced_number bytes ≡ Some (n, rest)) × ReadsNumbers rest ns last
+
+-- the last line of a case
+abbrev pub end_text : List ℕ
+end_text = codes "end\n"
+
+-- the bytes are the line of this order, if it has ranks, and the last line
+pub record IsTail (bytes : List ℕ) (order : List ℕ) : Type 0 where
+  pub text : bytes ≡ order_text order ++ end_text
+  pub fits : AllByRecursion Fits32 order
+
+-- the bytes are so of no order
+abbrev pub IsNoTail : List ℕ → Type 0
+IsNoTail bytes = (order : List ℕ) → AllByRecursion Fits32 order → bytes ≡ order_text order ++ end_text → ⊥
+
+-- a case with these fills and this order, and without deaths
+abbrev pub case_of : Head → List Fill → List ℕ → Case
+case_of h fills order = record {
   roots = h.sizes.roots;
   side = h.sizes.side;
   levels = h.sizes.levels;
@@ -190,14 +208,13 @@ case_of h fills = record {
   shift = h.limits.shift;
   fills = fills;
   dies = [];
-  order = [];
+  order = order;
 }
 
 -- the bytes are the text of this case, and of no other that may be served
 pub record IsTextOf (bytes : List ℕ) (c : Case) : Type 0 where
   pub text : bytes ≡ case_text c
   pub no_deaths : c.dies ≡ []
-  pub no_order : c.order ≡ []
   pub only : (d : Case) → IsServed d → bytes ≡ case_text d → d ≡ c
 
 -- the bytes are the text of no case that may be served

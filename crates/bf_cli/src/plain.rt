@@ -82,8 +82,8 @@ fn answer_to<R: Source>(alloc: Global, words: &[&str], source: &mut R) -> Answer
 
 /// Does what the words say, and tells on the sink what came of it.
 ///
-/// The one command is `one`: it reads the canonical text of a case of one level, without deaths and without an order,
-/// at most 1,048,576 bytes, and prints the map after all steps. All memory is taken before the first byte is written.
+/// The one command is `one`: it reads the canonical text of a case of one level and without deaths, at most 1,048,576
+/// bytes, and prints the map after all steps. All memory is taken before the first byte is written.
 /// Where several answers could be given the order is: usage, a fault in reading, a refusal, the map, a fault in
 /// writing. Want of memory may come in place of a refusal or the map.
 pub fn plain<R: Source, W: Sink>(

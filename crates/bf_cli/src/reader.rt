@@ -7,10 +7,12 @@ mod fills;
 mod head;
 mod line;
 mod number;
+mod order;
 
 use bf_case::{Case, Fill, Items};
 use fills::read_fills;
 use head::{Head, read_head};
+use order::read_tail;
 use std::alloc::{AllocError as Memory, Global};
 
 /// The greatest length of an input, in bytes.
@@ -28,8 +30,8 @@ pub enum Reading {
     Refused { line: u32, code: u32 },
 }
 
-fn case_of(alloc: Global, head: Head, fills: Vec<Fill>) -> Case
-    ensures { result ≡ case_of head fills.items }
+fn case_of(alloc: Global, head: Head, fills: Vec<Fill>, order: Vec<u32>) -> Case
+    ensures { result ≡ case_of head fills.items order.items }
 {
     let Head {
         sizes,
@@ -51,7 +53,7 @@ fn case_of(alloc: Global, head: Head, fills: Vec<Fill>) -> Case
         shift: limits.shift,
         fills: Items::of(fills),
         dies: Items::of(Vec::new(alloc)),
-        order: Items::of(Vec::new(alloc)),
+        order: Items::of(order),
     }
 }
 
@@ -63,10 +65,10 @@ fn spelled_case(alloc: Global, bytes: &[u8]) -> Result<Option<Case>, Memory>
         return Ok(None);
     };
     let (fills, rest) = read_fills(alloc, rest)?;
-    if rest != b"end\n".as_slice() {
+    let Some(order) = read_tail(alloc, rest)? else {
         return Ok(None);
-    }
-    Ok(Some(case_of(alloc, head, fills)))
+    };
+    Ok(Some(case_of(alloc, head, fills, order)))
 }
 
 /// The served case whose text the bytes are.

@@ -81,6 +81,13 @@ fn a_value_flows_into_the_next_root(rt: HostRuntime) -> Result<(), Fail> {
 }
 
 #[test]
+fn an_order_changes_nothing(rt: HostRuntime) -> Result<(), Fail> {
+    let alloc = rt.alloc();
+    let ordered = case_text(alloc, "1", "fill 0 0 0 0 0 0 8\norder 0 0\n")?;
+    expect(&rt, alloc, ordered, Status::Ok, DROP)
+}
+
+#[test]
 fn other_inputs_are_refused(rt: HostRuntime) -> Result<(), Fail> {
     let alloc = rt.alloc();
     let line = "refused line 0 code 99\n";

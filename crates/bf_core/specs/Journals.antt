@@ -4,7 +4,7 @@ use Rattle.std.specs.Prelude.{Bool, true, ◌&&◌, List, [], ◌∷◌, Option}
 use Rattle.bf_core.specs.declared.event.Event.{Event}
 use Rattle.bf_core.specs.declared.outcome.Outcome.{Outcome}
 use Rattle.bf_core.specs.declared.place.Place.{Place}
-use Rattle.bf_core.specs.States.{State, is_finished}
+use Rattle.bf_core.specs.States.{State}
 use Rattle.bf_core.specs.Legal.{is_legal}
 use Rattle.bf_core.specs.Next.{next}
 
@@ -27,7 +27,3 @@ are_legal state (move ∷ moves) = is_legal state move.event move.place && are_l
 -- the end of a journal: the first decision that ended the run, which no later move changes
 abbrev pub end_of : State → List Move → Option Outcome
 end_of state moves = (after state moves).outcome
-
--- whether every rank is dead or has left the ended run after some moves
-abbrev pub is_complete : State → List Move → Bool
-is_complete state moves = is_finished (after state moves)

@@ -17,7 +17,8 @@ use Rattle.bf_world.specs.Queues.{Waiting}
 use Rattle.bf_world.specs.Runs.{Run, place, run_after, is_journal}
 use Rattle.bf_world.proofs.LawfulLemmas.{IsLawful, after_lawful}
 use Rattle.bf_world.proofs.OrderLemmas.{somebody_can_move}
-use Rattle.bf_world.proofs.WeightLemmas.{weight, journal_falls}
+use Rattle.bf_world.specs.Weights.{weight}
+use Rattle.bf_world.proofs.WeightLemmas.{journal_falls}
 use Rattle.bf_drive.specs.Drives.{Turned, Turns}
 use Rattle.bf_drive.specs.Lighter.{IsLighter}
 use Rattle.bf_drive.proofs.StayLemmas.{first_legal, last_legal}

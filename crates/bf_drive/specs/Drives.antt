@@ -1,12 +1,16 @@
 -- The journals that come of turns in an order.
-use Rattle.std.specs.Prelude.{◌≡◌, ℕ, zero, suc, ◌<◌, ◌⊎◌, List, [], ◌∷◌, ◌++◌, length, slice_index_or}
-use Rattle.std.specs.List.{range_with_len}
+use Rattle.std.specs.Prelude.{◌≡◌, ℕ, false, zero, suc, ◌<◌, ◌⊎◌, List, [], ◌∷◌, ◌++◌, length, slice_index_or}
+use Rattle.std.specs.List.{list_any, range_with_len}
 use Rattle.bf_program.specs.declared.epoch.Epoch.{Epoch}
 use Rattle.bf_program.specs.Meanings.{Meanings}
 use Rattle.bf_core.specs.declared.event.Event.{Event}
-use Rattle.bf_core.specs.Legal.{IsOffered}
+use Rattle.bf_core.specs.Legal.{is_memory, IsOffered}
 use Rattle.bf_world.specs.Runs.{place, run_after}
 use Rattle.bf_rank.specs.Ranks.{RankView, IsAt, IsTurn}
+
+-- no rank arrives for want of memory
+abbrev pub NobodyWantsMemory : List Event → Type 0
+NobodyWantsMemory journal = list_any is_memory journal ≡ false
 
 module _ {S L M T R : Type 0} (m : Meanings S L M T R) (good : S → Epoch → ℕ → List L → Type 0) (setup : S) where
   -- a turn of a rank adds an event that it is offered or its arrival for want of memory, or nothing, where none is offered

@@ -3,7 +3,7 @@ use Rattle.std.specs.Prelude.{◌<◌, ◌≤◌, List, length}
 use Rattle.bf_program.specs.Meanings.{Meanings}
 use Rattle.bf_core.specs.declared.event.Event.{Event}
 use Rattle.bf_world.specs.Runs.{run_after}
-use Rattle.bf_world.proofs.WeightLemmas.{weight}
+use Rattle.bf_world.specs.Weights.{weight}
 
 -- a journal is as long as another and leaves no more to be done, and less where it is longer
 pub record IsLighter {S L M T R : Type 0} (m : Meanings S L M T R) (setup : S) (old new : List Event) : Type 0 where

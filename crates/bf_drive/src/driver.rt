@@ -3,7 +3,7 @@ ghost use Rattle.std.specs.List.{range_with_len};
 ghost use Rattle.bf_core.specs.States.{is_finished};
 ghost use Rattle.bf_world.specs.Worlds.{core_after};
 ghost use Rattle.bf_world.specs.Runs.{run_after};
-ghost use Rattle.bf_world.proofs.WeightLemmas.{weight};
+ghost use Rattle.bf_world.specs.Weights.{weight};
 ghost use Rattle.bf_drive.specs.Drives.{AreAt, Turned, Turns, IsDriven};
 ghost use Rattle.bf_drive.specs.Lighter.{IsLighter};
 

@@ -1,8 +1,11 @@
 //! Laws of every world, each the contract of a call that does nothing.
-ghost use Rattle.std.specs.Prelude.{◌≡◌, false};
+ghost use Rattle.std.specs.Prelude.{◌≡◌, ℕ, false, IsTrue, List};
+ghost use Rattle.bf_core.specs.declared.event.Event.{Event};
 ghost use Rattle.bf_core.specs.Orders.{CanMove};
 ghost use Rattle.bf_core.specs.States.{is_finished};
+ghost use Rattle.bf_world.specs.Runs.{is_journal};
 ghost use Rattle.bf_world.specs.Worlds.{core_after, place_after};
+ghost use Rattle.bf_drive.specs.Drives.{IsDriven, NobodyWantsMemory};
 
 use bf_program::RankProgram;
 use bf_world::World;
@@ -14,3 +17,13 @@ pub fn somebody_can_move<P: RankProgram>(world: &World<P>)
 {
     world.known();
 }
+
+/// Where nobody wants memory, turns in an order and then passes through all ranks lead to one journal alone in which all
+/// have ended. Each turn adds the one event that the rank is offered, or nothing where none is offered.
+pub fn alone<P: RankProgram>()
+    ensures { (setup : P.Setup) (order : List ℕ) (journal other : List Event)
+        → IsTrue (is_journal P.meanings setup journal) → IsTrue (is_journal P.meanings setup other)
+        → IsTrue (is_finished (core_after P.meanings setup journal)) → IsTrue (is_finished (core_after P.meanings setup other))
+        → NobodyWantsMemory journal → NobodyWantsMemory other
+        → IsDriven P.meanings P.good setup order journal → IsDriven P.meanings P.good setup order other → journal ≡ other }
+{}

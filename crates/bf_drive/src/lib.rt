@@ -5,5 +5,7 @@
 
 mod driver;
 pub mod laws;
+mod opening;
 
 pub use driver::drive;
+pub use opening::opened_ranks;

@@ -39,7 +39,7 @@ root_test i k root = iff_same (id_eq i (root_id k)) (i.root == k)
     (λ same. (id_eq_is_equal i (root_id k)).1 (root ∙ ap root_id (eqb-true i.root k same)))
 
 -- so roots are counted by their numbers
-counted_by_root : (blocks : List BlockValue) (k : ℕ) → All (λ (b : BlockValue). b.id ≡ root_id b.id.root) blocks
+pub counted_by_root : (blocks : List BlockValue) (k : ℕ) → All (λ (b : BlockValue). b.id ≡ root_id b.id.root) blocks
     → times_among blocks (root_id k) ≡ held (λ (b : BlockValue). b.id.root) blocks k
 unfolding held
 counted_by_root [] k roots = refl

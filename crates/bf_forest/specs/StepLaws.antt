@@ -36,15 +36,19 @@ model_cells c time b is =
     subst (λ (p : Point). cells_at (map_at c p) b.id ≡ Some b.cells) is.at
     (subst (λ (k : Case). cells_at (map_at k b.point) b.id ≡ Some b.cells) is.of_case is.models.leaf)
 
+-- a leaf of the model is a root
+pub root_of_leaf : (c : Case) (time : ℕ) (i : BlockId) (g : Grid) → CanRun c → cells_at (model c time) i ≡ Some g → (i ≡ root_id i.root) × (i.root < root_count c.roots)
+root_of_leaf c time i g runs found =
+    let has_id : Contains (ids_of (model c time)) i =
+    Contains-map (λ (leaf : Leaf). leaf.0) (model c time) (i, g) (leaf_from_cells_at (model c time) i g found) in
+    let its = Contains-from_fn_cases root_id (root_count c.roots) i
+    (subst (λ (ids : List BlockId). Contains ids i) (IsRootMap-model c time runs.valid runs.one_level).roots has_id) in
+    let root : i.root ≡ its.0 = ap (λ (j : BlockId). j.root) its.2 in
+    (its.2 ∙ ap root_id (sym root), rw root its.1)
+
 -- a block is a root
 pub block_root : (c : Case) (time : ℕ) (b : BlockValue) → CanRun c → IsBlockAt c time b → (b.id ≡ root_id b.id.root) × (b.id.root < root_count c.roots)
-block_root c time b runs is =
-    let has : Contains (model c time) (b.id, b.cells) = leaf_from_cells_at (model c time) b.id b.cells (model_cells c time b is) in
-    let has_id : Contains (ids_of (model c time)) b.id = Contains-map (λ (leaf : Leaf). leaf.0) (model c time) (b.id, b.cells) has in
-    let found = Contains-from_fn_cases root_id (root_count c.roots) b.id
-    (subst (λ (ids : List BlockId). Contains ids b.id) (IsRootMap-model c time runs.valid runs.one_level).roots has_id) in
-    let root : b.id.root ≡ found.0 = ap (λ (i : BlockId). i.root) found.2 in
-    (found.2 ∙ ap root_id (sym root), rw root found.1)
+block_root c time b runs is = root_of_leaf c time b.id b.cells runs (model_cells c time b is)
 
 -- what is found of a root among blocks is what the model has of it
 found_is_models : (c : Case) (time : ℕ) (known : List BlockValue) (i : BlockId) (g : Grid) → All (IsBlockAt c time) known

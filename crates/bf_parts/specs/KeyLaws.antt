@@ -113,7 +113,7 @@ count_passed passes test (x ∷ xs) = at (passes x) (count_passed passes test xs
     at false later = later ∙ omega arith
 
 -- of one number each
-counted_at : (passes : ℕ → Bool) (count k : ℕ) (b : Bool) → nat_lt k count ≡ b → count_by (λ j. passes j && (j == k)) (range_with_len 0 count) ≡ once (b && passes k)
+pub counted_at : (passes : ℕ → Bool) (count k : ℕ) (b : Bool) → nat_lt k count ≡ b → count_by (λ j. passes j && (j == k)) (range_with_len 0 count) ≡ once (b && passes k)
 counted_at passes count k true below =
     let within : k < count = grind (arith, nat_tests) in
     sums_same (λ j. cond (passes j && (j == k)) 1 0) (amount_at k (once (passes k))) 0 count

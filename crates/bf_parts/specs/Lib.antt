@@ -14,3 +14,5 @@ pub mod Programs
 pub mod ProgramLaws
 pub mod PeerLaws
 pub mod PieceLaws
+pub mod PlainRounds
+pub mod Hearing

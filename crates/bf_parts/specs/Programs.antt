@@ -1,6 +1,6 @@
 -- Programs whose ranks keep their items in parts.
 use Rattle.std.specs.Prelude.{◌≡◌, ℕ, ◌<◌, ◌≤◌, Bool, true, false, IsTrue, List, [], map, filter, All}
-use Rattle.std.specs.List.{range_with_len, count_by, flat_map}
+use Rattle.std.specs.List.{range_with_len, count_by}
 use Rattle.bf_buddy.specs.Members.{is_member}
 use Rattle.bf_program.specs.declared.epoch.Epoch.{Epoch}
 use Rattle.bf_program.specs.Laws.{times}

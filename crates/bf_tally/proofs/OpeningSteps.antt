@@ -3,7 +3,7 @@ use Rattle.std.proofs.Common.{ℕ, ◌+◌, ◌<◌, ◌≤◌, arith}
 use Rattle.std.specs.Prelude.{IsTrue}
 use Rattle.std.specs.List.{range_with_len}
 use Rattle.bf_buddy.specs.Members.{is_member}
-use Rattle.bf_tally.specs.Seats.{member_range, range_within}
+use Rattle.bf_parts.specs.Seats.{member_range, range_within}
 
 pub rank_in : (ranks rank : ℕ) → rank < ranks → IsTrue (is_member (range_with_len 0 ranks) rank)
 rank_in ranks rank below = member_range 0 ranks rank (omega arith) (omega arith)

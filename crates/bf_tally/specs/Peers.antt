@@ -1,13 +1,9 @@
 -- Who talks to whom in a round.
 use Rattle.std.specs.Prelude.{ℕ, ◌/◌, ◌==◌, Bool, true, ◌&&◌, ◌||◌, not, List, filter}
-use Rattle.bf_buddy.specs.Members.{is_member}
-use Rattle.bf_buddy.specs.Buddy.{place_of, buddy_of}
+use Rattle.bf_buddy.specs.Buddy.{place_of}
+use Rattle.bf_parts.specs.Sides.{gives}
 use Rattle.bf_tally.specs.declared.stage.Stage.{Stage}
 use Rattle.bf_tally.specs.declared.stage.Stage.TheVariants.{Pair, Sum, Snapshot}
-
--- whether a rank is the buddy of another, which is a member
-unfoldable pub gives : (members : List ℕ) → (shift from to : ℕ) → Bool
-gives members shift from to = is_member members from && (buddy_of members from shift == to)
 
 -- whether two members have to do with each other in a round
 unfoldable pub is_tied : Stage → (members : List ℕ) → (shift a b : ℕ) → Bool

@@ -1,15 +1,15 @@
 -- What a restore reads changes by a commit alone.
 use Rattle.std.proofs.Common.{◌≡◌, ℕ, Bool, true, false, cond, List, refl, ap}
 use Rattle.bf_program.specs.Laws.{KeepsReads}
+use Rattle.bf_parts.specs.declared.side.Side.{Side}
+use Rattle.bf_parts.specs.Sides.{gives}
 use Rattle.bf_tally.specs.declared.item.Item.{Item}
 use Rattle.bf_tally.specs.declared.local.TallyLocal.{TallyLocal}
-use Rattle.bf_tally.specs.declared.local.TallySide.{TallySide}
 use Rattle.bf_tally.specs.declared.message.TallyMessage.{TallyMessage}
 use Rattle.bf_tally.specs.declared.setup.TallySetup.{TallySetup}
 use Rattle.bf_tally.specs.declared.stage.Stage.{Stage}
 use Rattle.bf_tally.specs.declared.stage.Stage.TheVariants.{Pair, Sum, Snapshot}
 use Rattle.bf_tally.specs.Meanings.{tally, heard_of, ended, restored}
-use Rattle.bf_tally.specs.Peers.{gives}
 use Rattle.bf_tally.specs.Stages.{stage_of}
 
 -- a local with another part of its predecessor, in the new snapshot
@@ -33,7 +33,7 @@ ended_active Pair shift time members local = refl
 ended_active Sum shift time members local = refl
 ended_active Snapshot shift time members local = refl
 
-restored_active : (side : TallySide) (rank : ℕ) (live : List ℕ) → (restored side rank live).active ≡ side
+restored_active : (side : Side Item) (rank : ℕ) (live : List ℕ) → (restored side rank live).active ≡ side
 unfolding restored
 restored_active side rank live = refl
 

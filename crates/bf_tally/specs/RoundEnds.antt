@@ -1,85 +1,22 @@
 -- What a round leaves of a member's local.
-use Rattle.std.proofs.Common.{◌≡◌, ◌≢◌, ℕ, ◌+◌, ◌*◌, ◌%◌, ◌<◌, ◌≤◌, Bool, true, false, cond, List, [], ◌∷◌, length, take, arith, refl, ap, ◌∙◌}
+use Rattle.std.proofs.Common.{◌≡◌, ◌≢◌, ℕ, ◌+◌, ◌*◌, ◌%◌, ◌<◌, ◌≤◌, Bool, true, false, cond, List, [], ◌∷◌, arith, refl, ◌∙◌}
 use Rattle.std.specs.Prelude.{◌==◌, nat_le, Option, Some, None}
-use Rattle.std.specs.List.{fold}
 use Rattle.std.proofs.lemmas.Bool.Decides.{nat_tests}
-use Rattle.bf_buddy.specs.Buddy.{place_of}
 use Rattle.bf_program.specs.declared.epoch.Epoch.{Epoch}
-use Rattle.bf_program.specs.Lockstep.{local_of, after_sends, message, after_message, after_receives, after_round}
+use Rattle.bf_program.specs.Lockstep.{local_of}
+use Rattle.bf_parts.specs.Counts.{held_mapped}
+use Rattle.bf_parts.specs.PlainRounds.{hears, hears_all}
+use Rattle.bf_parts.specs.Shares.{held}
+use Rattle.bf_parts.specs.Sides.{gives}
+use Rattle.bf_tally.specs.declared.item.Item.{Item}
 use Rattle.bf_tally.specs.declared.local.TallyLocal.{TallyLocal}
 use Rattle.bf_tally.specs.declared.message.TallyMessage.{TallyMessage}
 use Rattle.bf_tally.specs.declared.setup.TallySetup.{TallySetup}
 use Rattle.bf_tally.specs.declared.stage.Stage.{Stage}
 use Rattle.bf_tally.specs.declared.stage.Stage.TheVariants.{Pair, Sum, Snapshot}
-use Rattle.bf_tally.specs.Counts.{held_raised}
 use Rattle.bf_tally.specs.Meanings.{tally, told, heard_of, ended}
-use Rattle.bf_tally.specs.Peers.{gives, peers_of}
 use Rattle.bf_tally.specs.Stages.{span, rounds_of, stage_of}
-use Rattle.bf_tally.specs.Totals.{held}
-
--- a local that has received from a peer, and from peers one after another
-abbrev pub heard_by : Stage → (members : List ℕ) → (shift rank peer : ℕ) → TallyLocal → Option TallyLocal → TallyLocal
-heard_by stage members shift rank peer local (Some sender) = heard_of stage members shift local peer (told stage members shift sender rank)
-heard_by stage members shift rank peer local None = local
-
-abbrev pub heard_from : Stage → (members : List ℕ) → (shift : ℕ) → List TallyLocal → (rank : ℕ) → TallyLocal → (peer : ℕ) → TallyLocal
-heard_from stage members shift locals rank local peer = heard_by stage members shift rank peer local (local_of members locals peer)
-
-unfoldable pub heard_all : Stage → (members : List ℕ) → (shift : ℕ) → List TallyLocal → (rank : ℕ) → TallyLocal → List ℕ → TallyLocal
-heard_all stage members shift locals rank local peers = fold (heard_from stage members shift locals rank) local peers
-
-sends_same : (local : TallyLocal) (peers : List ℕ) → fold (λ (l : TallyLocal) (to : ℕ). l) local peers ≡ local
-sends_same local [] = refl
-sends_same local (peer ∷ peers) = sends_same local peers
-
-folds_agree : (f g : TallyLocal → ℕ → TallyLocal) (local : TallyLocal) (peers : List ℕ) → ((l : TallyLocal) (peer : ℕ) → f l peer ≡ g l peer) → fold f local peers ≡ fold g local peers
-folds_agree f g local [] same = refl
-folds_agree f g local (peer ∷ peers) same = ap (λ l. fold f l peers) (same local peer) ∙ folds_agree f g (g local peer) peers same
-
-take_whole : (peers : List ℕ) → take (length peers) peers ≡ peers
-take_whole [] = refl
-take_whole (peer ∷ peers) = ap (λ rest. peer ∷ rest) (take_whole peers)
-
-sent : (setup : TallySetup) (epoch : Epoch) (round : ℕ) (local : TallyLocal) (count : ℕ) → after_sends tally setup epoch round local count ≡ local
-unfolding after_sends
-sent setup epoch round local count = sends_same local (take count (peers_of (stage_of epoch round) epoch.members setup.shift local.rank))
-
-message_is : (setup : TallySetup) (epoch : Epoch) (round : ℕ) (sender : TallyLocal) (rank : ℕ)
-    → message tally setup epoch round sender rank ≡ told (stage_of epoch round) epoch.members setup.shift sender rank
-unfolding message
-message_is setup epoch round sender rank =
-    ap (λ l. told (stage_of epoch round) epoch.members setup.shift l rank)
-    (sent setup epoch round sender (place_of (peers_of (stage_of epoch round) epoch.members setup.shift sender.rank) rank))
-
-hears : (setup : TallySetup) (epoch : Epoch) (round rank peer : ℕ) (local : TallyLocal) (found : Option TallyLocal)
-    → after_message tally setup epoch round rank peer local found ≡ heard_by (stage_of epoch round) epoch.members setup.shift rank peer local found
-hears setup epoch round rank peer local None = refl
-hears setup epoch round rank peer local (Some sender) =
-    ap (heard_of (stage_of epoch round) epoch.members setup.shift local peer) (message_is setup epoch round sender rank)
-
-received : (setup : TallySetup) (epoch : Epoch) (round : ℕ) (locals : List TallyLocal) (rank : ℕ) (local : TallyLocal) (count : ℕ)
-    → after_receives tally setup epoch round locals rank local count
-    ≡ heard_all (stage_of epoch round) epoch.members setup.shift locals rank local (take count (peers_of (stage_of epoch round) epoch.members setup.shift local.rank))
-unfolding after_receives heard_all
-received setup epoch round locals rank local count =
-    ap (λ l. fold (λ receiver peer. after_message tally setup epoch round rank peer receiver (local_of epoch.members locals peer)) l
-    (take count (peers_of (stage_of epoch round) epoch.members setup.shift local.rank)))
-    (sent setup epoch round local (length (peers_of (stage_of epoch round) epoch.members setup.shift local.rank)))
-    ∙ folds_agree (λ receiver peer. after_message tally setup epoch round rank peer receiver (local_of epoch.members locals peer))
-    (heard_from (stage_of epoch round) epoch.members setup.shift locals rank) local
-    (take count (peers_of (stage_of epoch round) epoch.members setup.shift local.rank))
-    (λ l peer. hears setup epoch round rank peer l (local_of epoch.members locals peer))
-
--- a member's local after a round, in terms of the stage
-pub round_is : (setup : TallySetup) (epoch : Epoch) (round : ℕ) (locals : List TallyLocal) (rank : ℕ) (local : TallyLocal)
-    → after_round tally setup epoch round locals rank local
-    ≡ ended (stage_of epoch round) setup.shift epoch.target epoch.members
-    (heard_all (stage_of epoch round) epoch.members setup.shift locals rank local (peers_of (stage_of epoch round) epoch.members setup.shift local.rank))
-unfolding after_round
-round_is setup epoch round locals rank local =
-    ap (ended (stage_of epoch round) setup.shift epoch.target epoch.members)
-    (received setup epoch round locals rank local (length (peers_of (stage_of epoch round) epoch.members setup.shift local.rank))
-    ∙ ap (heard_all (stage_of epoch round) epoch.members setup.shift locals rank local) (take_whole (peers_of (stage_of epoch round) epoch.members setup.shift local.rank)))
+use Rattle.bf_tally.specs.Totals.{raised}
 
 -- the local after has the rank, items and agreed snapshot of the local before
 pub record IsSame (before after : TallyLocal) : Type 0 where
@@ -103,18 +40,19 @@ heard_same Pair members shift local peer msg = record { rank = refl; items = ref
 heard_same Sum members shift local peer msg = record { rank = refl; items = refl; active = refl }
 heard_same Snapshot members shift local peer msg = given_same (gives members shift peer local.rank) local msg
 
-pub by_same : (stage : Stage) (members : List ℕ) (shift rank peer : ℕ) (local : TallyLocal) (found : Option TallyLocal) → IsSame local (heard_by stage members shift rank peer local found)
-by_same stage members shift rank peer local None = same_itself local
-by_same stage members shift rank peer local (Some sender) = heard_same stage members shift local peer (told stage members shift sender rank)
+one_same : (setup : TallySetup) (epoch : Epoch) (round rank peer : ℕ) (local : TallyLocal) (found : Option TallyLocal) → IsSame local (hears tally setup epoch round rank peer local found)
+one_same setup epoch round rank peer local None = same_itself local
+one_same setup epoch round rank peer local (Some sender) =
+    heard_same (stage_of epoch round) epoch.members setup.shift local peer (told (stage_of epoch round) epoch.members setup.shift sender rank)
 
-pub all_same : (stage : Stage) (members : List ℕ) (shift : ℕ) (locals : List TallyLocal) (rank : ℕ) (local : TallyLocal) (peers : List ℕ)
-    → IsSame local (heard_all stage members shift locals rank local peers)
-unfolding heard_all
-all_same stage members shift locals rank local [] = same_itself local
-all_same stage members shift locals rank local (peer ∷ peers) =
-    same_after local (heard_from stage members shift locals rank local peer) (heard_all stage members shift locals rank (heard_from stage members shift locals rank local peer) peers)
-    (by_same stage members shift rank peer local (local_of members locals peer))
-    (all_same stage members shift locals rank (heard_from stage members shift locals rank local peer) peers)
+pub all_same : (setup : TallySetup) (epoch : Epoch) (round : ℕ) (locals : List TallyLocal) (rank : ℕ) (local : TallyLocal) (peers : List ℕ)
+    → IsSame local (hears_all tally setup epoch round locals rank local peers)
+unfolding hears_all
+all_same setup epoch round locals rank local [] = same_itself local
+all_same setup epoch round locals rank local (peer ∷ peers) =
+    let heard = hears tally setup epoch round rank peer local (local_of epoch.members locals peer) in
+    same_after local heard (hears_all tally setup epoch round locals rank heard peers)
+    (one_same setup epoch round rank peer local (local_of epoch.members locals peer)) (all_same setup epoch round locals rank heard peers)
 
 -- but for the snapshot's round a round leaves the new snapshot as it is
 heard_spare : (stage : Stage) (members : List ℕ) (shift : ℕ) (local : TallyLocal) (peer : ℕ) (msg : TallyMessage) → stage ≢ Snapshot
@@ -124,18 +62,19 @@ heard_spare Pair members shift local peer msg early = refl
 heard_spare Sum members shift local peer msg early = refl
 heard_spare Snapshot members shift local peer msg early = absurd (early refl)
 
-by_spare : (stage : Stage) (members : List ℕ) (shift rank peer : ℕ) (local : TallyLocal) (found : Option TallyLocal) → stage ≢ Snapshot
-    → (heard_by stage members shift rank peer local found).spare ≡ local.spare
-by_spare stage members shift rank peer local None early = refl
-by_spare stage members shift rank peer local (Some sender) early = heard_spare stage members shift local peer (told stage members shift sender rank) early
+one_spare : (setup : TallySetup) (epoch : Epoch) (round rank peer : ℕ) (local : TallyLocal) (found : Option TallyLocal) → stage_of epoch round ≢ Snapshot
+    → (hears tally setup epoch round rank peer local found).spare ≡ local.spare
+one_spare setup epoch round rank peer local None early = refl
+one_spare setup epoch round rank peer local (Some sender) early =
+    heard_spare (stage_of epoch round) epoch.members setup.shift local peer (told (stage_of epoch round) epoch.members setup.shift sender rank) early
 
-pub all_spare : (stage : Stage) (members : List ℕ) (shift : ℕ) (locals : List TallyLocal) (rank : ℕ) (local : TallyLocal) (peers : List ℕ) → stage ≢ Snapshot
-    → (heard_all stage members shift locals rank local peers).spare ≡ local.spare
-unfolding heard_all
-all_spare stage members shift locals rank local [] early = refl
-all_spare stage members shift locals rank local (peer ∷ peers) early =
-    all_spare stage members shift locals rank (heard_from stage members shift locals rank local peer) peers early
-    ∙ by_spare stage members shift rank peer local (local_of members locals peer) early
+pub all_spare : (setup : TallySetup) (epoch : Epoch) (round : ℕ) (locals : List TallyLocal) (rank : ℕ) (local : TallyLocal) (peers : List ℕ) → stage_of epoch round ≢ Snapshot
+    → (hears_all tally setup epoch round locals rank local peers).spare ≡ local.spare
+unfolding hears_all
+all_spare setup epoch round locals rank local [] early = refl
+all_spare setup epoch round locals rank local (peer ∷ peers) early =
+    all_spare setup epoch round locals rank (hears tally setup epoch round rank peer local (local_of epoch.members locals peer)) peers early
+    ∙ one_spare setup epoch round rank peer local (local_of epoch.members locals peer) early
 
 pub ended_spare : (stage : Stage) (shift time : ℕ) (members : List ℕ) (local : TallyLocal) → stage ≢ Snapshot → (ended stage shift time members local).spare ≡ local.spare
 unfolding ended
@@ -149,10 +88,10 @@ ended_rank Pair shift time members local = refl
 ended_rank Sum shift time members local = refl
 ended_rank Snapshot shift time members local = refl
 
-pub ended_held : (stage : Stage) (shift time : ℕ) (members : List ℕ) (local : TallyLocal) (id : ℕ) → held (ended stage shift time members local).items id ≡ held local.items id
-unfolding ended
+pub ended_held : (stage : Stage) (shift time : ℕ) (members : List ℕ) (local : TallyLocal) (id : ℕ) → held (λ (item : Item). item.id) (ended stage shift time members local).items id ≡ held (λ (item : Item). item.id) local.items id
+unfolding ended raised
 ended_held Pair shift time members local id = refl
-ended_held Sum shift time members local id = held_raised _ local.items id
+ended_held Sum shift time members local id = held_mapped (λ (item : Item). item.id) _ local.items id (λ item. refl)
 ended_held Snapshot shift time members local id = refl
 
 -- when the snapshot is made

@@ -5,12 +5,11 @@ use Rattle.bf_program.specs.Laws.{Laws}
 use Rattle.bf_tally.specs.declared.setup.TallySetup.{TallySetup}
 use Rattle.bf_tally.specs.Meanings.{tally, pieces}
 use Rattle.bf_tally.specs.Goods.{IsGood}
-use Rattle.bf_tally.specs.GoodLaws.{goods_kept}
-use Rattle.bf_tally.specs.PartLaws.{parts_kept, pieces_kept}
+use Rattle.bf_tally.specs.GoodLaws.{goods_kept, stores_kept, parts_kept}
 use Rattle.bf_tally.specs.PeerLaws.{peers_kept}
+use Rattle.bf_tally.specs.PieceLaws.{pieces_kept}
 use Rattle.bf_tally.specs.ReadLaws.{reads_kept}
 use Rattle.bf_tally.specs.Stages.{span, rounds_of}
-use Rattle.bf_tally.specs.StoredLaws.{stores_kept}
 
 -- an epoch has at most 257 rounds
 few_rounds : (epoch : Epoch) → rounds_of epoch < 2 ^ 32

@@ -1,6 +1,6 @@
 -- The values of items.
-use Rattle.std.specs.Prelude.{ℕ, ◌+◌, ◌%◌, ◌^◌, ◌==◌, List, map}
-use Rattle.std.specs.List.{fold, count_by}
+use Rattle.std.specs.Prelude.{ℕ, ◌+◌, ◌%◌, ◌^◌, List, map}
+use Rattle.std.specs.List.{fold}
 use Rattle.bf_tally.specs.declared.item.Item.{Item}
 
 -- the sum of the values, modulo 2^32
@@ -10,7 +10,3 @@ total items = fold (λ sum item. (sum + item.value) % 2 ^ 32) 0 items
 -- the items with a number added to each value, modulo 2^32
 unfoldable pub raised : (by : ℕ) → List Item → List Item
 raised by items = map (λ item. record { id = item.id; value = (item.value + by) % 2 ^ 32 }) items
-
--- how often an id is among the items
-unfoldable pub held : List Item → (id : ℕ) → ℕ
-held items id = count_by (λ item. item.id == id) items

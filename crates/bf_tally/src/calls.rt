@@ -1,16 +1,18 @@
 ghost use Rattle.std.specs.Prelude.{◌≡◌, IfOk, OnOk};
-ghost use Rattle.bf_tally.specs.Meanings.{told, heard_of, ended, source_of, regained, restored};
+ghost use Rattle.bf_parts.specs.Sides.{regained};
+ghost use Rattle.bf_tally.specs.Meanings.{told, heard_of, ended, restored};
 
-use crate::opening::bare;
-use crate::peers::gives;
-use crate::{Items, Stage, TallyLocal, TallyMessage, TallySide};
+use crate::items::{copied, joined, raised, total};
+use crate::{Item, Stage, TallyLocal, TallyMessage};
 use bf_buddy::Members;
+use bf_items::Items;
+use bf_parts::{Side, gives, source_of};
 use bf_program::Memory;
 use std::alloc::Global;
 
 // The items for the buddy.
 #[tactic(auto, unfolding(crate::specs::Meanings::told))]
-fn copied(
+fn given(
     alloc: Global,
     members: Members,
     shift: u32,
@@ -21,8 +23,8 @@ fn copied(
 {
     if gives(members, shift, local.rank, to) {
         Ok(TallyMessage {
-            total: local.items.total(),
-            items: local.items.copy(alloc)?,
+            total: total(&local.items),
+            items: copied(alloc, &local.items)?,
         })
     } else {
         Ok(TallyMessage {
@@ -45,9 +47,9 @@ pub fn told(
     ensures { IfOk result (λ msg. msg ≡ told stage members shift local.now to) }
 {
     match stage {
-        Stage::Snapshot => copied(alloc, members, shift, local, to),
+        Stage::Snapshot => given(alloc, members, shift, local, to),
         Stage::Pair | Stage::Sum => Ok(TallyMessage {
-            total: local.items.total(),
+            total: total(&local.items),
             items: Items::new(alloc),
         }),
     }
@@ -87,22 +89,10 @@ pub fn add_up(
 ) -> Result<(), Memory>
     ensures { OnOk result (local.new ≡ ended Stage.Sum shift time members local.old) }
 {
-    let by = local.items.total().wrapping_add(local.heard);
-    local.items = local.items.raised(alloc, by)?;
+    let by = total(&local.items).wrapping_add(local.heard);
+    local.items = raised(alloc, &local.items, by)?;
     local.heard = 0;
     Ok(())
-}
-
-// The member whose part a rank has beside its own; a stranger names itself.
-#[tactic(auto, unfolding(crate::specs::Meanings::source_of))]
-fn source_of(members: Members, shift: u32, rank: u32) -> u32
-    ensures { result ≡ source_of members shift rank }
-{
-    if members.has(rank) {
-        members.predecessor(rank, shift)
-    } else {
-        rank
-    }
 }
 
 /// Makes the new snapshot.
@@ -116,7 +106,7 @@ pub fn snap(
 ) -> Result<(), Memory>
     ensures { OnOk result (local.new ≡ ended Stage.Snapshot shift time members local.old) }
 {
-    local.spare.own = local.items.copy(alloc)?;
+    local.spare.own = copied(alloc, &local.items)?;
     local.spare.time = time;
     local.spare.source = source_of(members, shift, local.rank);
     local.spare.homes = members;
@@ -124,14 +114,14 @@ pub fn snap(
 }
 
 // The items of a side that a rank goes on with.
-fn regained(alloc: Global, side: &TallySide, live: Members) -> Result<Items, Memory>
+fn regained(alloc: Global, side: &Side<Item>, live: Members) -> Result<Items<Item>, Memory>
     ensures { IfOk result (λ items. items ≡ regained side.now live) }
 {
-    let mut items = side.own.copy(alloc)?;
-    if !live.has(side.source) {
-        items.extend(&side.other)?;
+    if live.has(side.source) {
+        copied(alloc, &side.own)
+    } else {
+        joined(alloc, &side.own, &side.other)
     }
-    Ok(items)
 }
 
 /// Goes back to the agreed snapshot, as one of the live.
@@ -147,6 +137,6 @@ pub fn go_back(
     local.items = regained(alloc, &local.active, live)?;
     local.rank = rank;
     local.heard = 0;
-    local.spare = bare(alloc);
+    local.spare = Side::bare(alloc);
     Ok(())
 }

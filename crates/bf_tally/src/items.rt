@@ -1,118 +1,68 @@
-ghost use Rattle.std.specs.Prelude.{◌≡◌, [], ◌∷◌, ◌++◌, length, slice_get, IfOk, OnOk};
+ghost use Rattle.std.specs.Prelude.{◌≡◌, [], ◌∷◌, ◌++◌, IfOk};
 ghost use Rattle.bf_tally.specs.Totals.{total, raised};
 
 use crate::Item;
+use bf_items::Items;
 use bf_program::Memory;
 use std::alloc::Global;
-use std::marker::Model;
-use std::mem;
 
-/// A list of items, which contracts see as the plain list.
-#[derive(Drop)]
-pub struct Items {
-    items: Vec<Item>,
+/// A lone item.
+pub fn one(alloc: Global, item: Item) -> Result<Items<Item>, Memory>
+    ensures { IfOk result (λ items. items ≡ item ∷ []) }
+{
+    let mut items = Vec::new(alloc);
+    items.push(item)?;
+    Ok(Items::of(items))
 }
 
-impl Model for Items {
-    ghost use Rattle.std.specs.Prelude.{List};
-    ghost use Rattle.bf_tally.specs.declared.item.Item.{Item};
-
-    ghost Value = { List Item };
-
-    ghost view = { λ a. a.items.items };
+/// The sum of the values, modulo 2^32.
+#[tactic(auto, unfolding(crate::specs::Totals::total))]
+pub fn total(items: &Items<Item>) -> u32
+    ensures { result ≡ total items.now }
+{
+    items
+        .as_slice()
+        .iter()
+        .fold(0u32, |sum: u32, item: &Item| sum.wrapping_add(item.value))
 }
 
-impl Items {
-    /// No items.
-    pub fn new(alloc: Global) -> Self
-        ensures { result ≡ [] }
-    {
-        Items {
-            items: Vec::new(alloc),
-        }
-    }
+/// The same items once more.
+pub fn copied(alloc: Global, items: &Items<Item>) -> Result<Items<Item>, Memory>
+    ensures { IfOk result (λ copy. copy ≡ items.now) }
+{
+    Ok(Items::of(Vec::from_slice(alloc, items.as_slice())?))
+}
 
-    /// A lone item.
-    pub fn one(alloc: Global, item: Item) -> Result<Self, Memory>
-        ensures { IfOk result (λ items. items ≡ item ∷ []) }
-    {
-        let mut items = Vec::new(alloc);
-        items.push(item)?;
-        Ok(Items { items })
-    }
+/// Copies of items, and of others after them.
+pub fn joined(
+    alloc: Global,
+    items: &Items<Item>,
+    others: &Items<Item>,
+) -> Result<Items<Item>, Memory>
+    ensures { IfOk result (λ all. all ≡ items.now ++ others.now) }
+{
+    let mut all = Vec::from_slice(alloc, items.as_slice())?;
+    all.extend_from_slice(others.as_slice())?;
+    Ok(Items::of(all))
+}
 
-    /// How many items there are.
-    pub fn count(&self) -> usize
-        ensures { result ≡ length self.now }
-    {
-        self.items.len()
-    }
-
-    /// The item at a place.
-    pub fn at(&self, place: usize) -> Option<Item>
-        ensures { result ≡ slice_get self.now place }
-    {
-        self.items.get(place).copied()
-    }
-
-    /// The sum of the values, modulo 2^32.
-    #[tactic(auto, unfolding(crate::specs::Totals::total))]
-    pub fn total(&self) -> u32
-        ensures { result ≡ total self.now }
-    {
-        self.items
-            .iter()
-            .fold(0u32, |sum: u32, item: &Item| sum.wrapping_add(item.value))
-    }
-
-    /// The same items once more.
-    pub fn copy(&self, alloc: Global) -> Result<Self, Memory>
-        ensures { IfOk result (λ items. items ≡ self.now) }
-    {
-        Ok(Items {
-            items: Vec::from_slice(alloc, &self.items)?,
+#[tactic(auto, unfolding(crate::specs::Totals::raised))]
+fn raised_all(alloc: Global, items: &[Item], by: u32) -> Result<Vec<Item>, Memory>
+    ensures { IfOk result (λ more. more.items ≡ raised by items.now) }
+{
+    let more = items
+        .iter()
+        .map(|item| Item {
+            id: item.id,
+            value: item.value.wrapping_add(by),
         })
-    }
+        .collect(alloc)?;
+    Ok(more)
+}
 
-    /// The items with a number added to each value, modulo 2^32.
-    #[tactic(auto, unfolding(crate::specs::Totals::raised))]
-    pub fn raised(&self, alloc: Global, by: u32) -> Result<Self, Memory>
-        ensures { IfOk result (λ items. items ≡ raised by self.now) }
-    {
-        let items = self
-            .items
-            .iter()
-            .map(|item| Item {
-                id: item.id,
-                value: item.value.wrapping_add(by),
-            })
-            .collect(alloc)?;
-        Ok(Items { items })
-    }
-
-    /// Adds copies of other items at the end.
-    pub fn extend(&mut self, other: &Items) -> Result<(), Memory>
-        ensures { OnOk result (self.new ≡ self.old ++ other.now) }
-    {
-        self.items.extend_from_slice(&other.items)?;
-        Ok(())
-    }
-
-    /// Lets the items go.
-    pub fn clear(&mut self)
-        ensures { self.new ≡ [] }
-    {
-        self.items.clear();
-    }
-
-    /// Moves the items out.
-    pub fn moved(&mut self) -> Self
-        ensures items { result ≡ self.old }
-        ensures none { self.new ≡ [] }
-    {
-        let empty = Vec::new(*self.items.allocator());
-        Items {
-            items: mem::replace(&mut self.items, empty),
-        }
-    }
+/// The items with a number added to each value, modulo 2^32.
+pub fn raised(alloc: Global, items: &Items<Item>, by: u32) -> Result<Items<Item>, Memory>
+    ensures { IfOk result (λ more. more ≡ raised by items.now) }
+{
+    Ok(Items::of(raised_all(alloc, items.as_slice(), by)?))
 }

@@ -16,9 +16,8 @@ mod setup;
 mod stage;
 
 pub use item::Item;
-pub use items::Items;
 pub use laws::the_tally_stays_good;
-pub use local::{TallyLocal, TallySide};
+pub use local::TallyLocal;
 pub use message::TallyMessage;
 pub use opening::opened;
 pub use program::Tally;

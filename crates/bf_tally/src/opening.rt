@@ -1,31 +1,22 @@
 ghost use Rattle.std.specs.Prelude.{◌≡◌, ◌<◌, IfOk};
-ghost use Rattle.bf_tally.specs.Meanings.{bare, first_items, other_items, opened};
+ghost use Rattle.bf_parts.specs.Openings.{other_items};
+ghost use Rattle.bf_tally.specs.Meanings.{first_items, opened};
 
-use crate::{Item, Items, TallyLocal, TallySetup, TallySide};
+use crate::items::one;
+use crate::{Item, TallyLocal, TallySetup};
 use bf_buddy::Members;
+use bf_items::Items;
+use bf_parts::Side;
 use bf_program::Memory;
 use std::alloc::Global;
 
-/// A side without a snapshot.
-pub fn bare(alloc: Global) -> TallySide
-    ensures { result ≡ bare }
-{
-    TallySide {
-        time: 0,
-        homes: Members::all(0),
-        source: 0,
-        own: Items::new(alloc),
-        other: Items::new(alloc),
-    }
-}
-
 // A rank's items at the opening.
-fn first_items(alloc: Global, count: u32, rank: u32) -> Result<Items, Memory>
+fn first_items(alloc: Global, count: u32, rank: u32) -> Result<Items<Item>, Memory>
     requires { rank < 32 }
     ensures { IfOk result (λ items. items ≡ first_items count rank) }
 {
     if rank < count {
-        Items::one(
+        one(
             alloc,
             Item {
                 id: rank,
@@ -38,9 +29,9 @@ fn first_items(alloc: Global, count: u32, rank: u32) -> Result<Items, Memory>
 }
 
 // The predecessor's items at the opening, where that is another rank.
-fn other_items(alloc: Global, count: u32, rank: u32, source: u32) -> Result<Items, Memory>
+fn other_items(alloc: Global, count: u32, rank: u32, source: u32) -> Result<Items<Item>, Memory>
     requires { source < 32 }
-    ensures { IfOk result (λ items. items ≡ other_items count rank source) }
+    ensures { IfOk result (λ items. items ≡ other_items (first_items count) rank source) }
 {
     if source == rank {
         Ok(Items::new(alloc))
@@ -57,7 +48,7 @@ pub fn opened(alloc: Global, setup: &TallySetup, rank: u32) -> Result<TallyLocal
 {
     let homes = Members::all(setup.ranks());
     let source = homes.predecessor(rank, setup.shift());
-    let active = TallySide {
+    let active = Side {
         time: 0,
         homes,
         source,
@@ -69,6 +60,6 @@ pub fn opened(alloc: Global, setup: &TallySetup, rank: u32) -> Result<TallyLocal
         items: first_items(alloc, setup.items(), rank)?,
         heard: 0,
         active,
-        spare: bare(alloc),
+        spare: Side::bare(alloc),
     })
 }

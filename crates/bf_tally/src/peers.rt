@@ -1,17 +1,10 @@
 ghost use Rattle.std.specs.Prelude.{◌≡◌};
 ghost use Rattle.bf_buddy.specs.Buddy.{place_of};
-ghost use Rattle.bf_tally.specs.Peers.{gives, is_tied, is_peer, peers_of};
+ghost use Rattle.bf_tally.specs.Peers.{is_tied, is_peer, peers_of};
 
 use crate::Stage;
 use bf_buddy::Members;
-
-/// Whether a rank is the buddy of another, which is a member.
-#[tactic(auto, unfolding(crate::specs::Peers::gives))]
-pub fn gives(members: Members, shift: u32, from: u32, to: u32) -> bool
-    ensures { result ≡ gives members shift from to }
-{
-    members.has(from) && members.buddy(from, shift) == to
-}
+use bf_parts::gives;
 
 // The place of a member; a stranger comes after all.
 #[tactic(auto, using(crate::proofs::PlaceSteps::place_steps))]

@@ -1,8 +1,9 @@
 use crate::calls::{add_up, go_back, hear, snap, told};
 use crate::peers::peers_of;
 use crate::stage::{rounds, stage_of};
-use crate::{Items, Stage, TallyLocal, TallyMessage, TallySetup};
+use crate::{Item, Stage, TallyLocal, TallyMessage, TallySetup};
 use bf_buddy::Members;
+use bf_items::Items;
 use bf_program::{Epoch, Measure, Memory, RankProgram, target_of};
 use std::alloc::Global;
 use std::mem;
@@ -13,7 +14,7 @@ pub struct Tally;
 impl RankProgram for Tally {
     ghost use Rattle.std.specs.Prelude.{ℕ};
     ghost use Rattle.bf_tally.specs.declared.item.Item.{Item};
-    ghost use Rattle.bf_tally.specs.declared.local.TallySide.{TallySide};
+    ghost use Rattle.bf_parts.specs.declared.side.Side.{Side};
     ghost use Rattle.bf_tally.specs.Meanings.{tally, pieces};
     ghost use Rattle.bf_tally.specs.Goods.{IsGood};
     ghost use Rattle.bf_tally.specs.TallyLaws.{lawful_tally};
@@ -24,9 +25,9 @@ impl RankProgram for Tally {
 
     type Msg = TallyMessage;
 
-    type Part = Items;
+    type Part = Items<Item>;
 
-    ghost Saved = { TallySide };
+    ghost Saved = { Side Item };
 
     ghost Cube = { Item };
 
@@ -129,20 +130,16 @@ impl RankProgram for Tally {
     }
 
     fn filled(local: &TallyLocal) -> bool {
-        local.spare.own.count() != 0
+        !local.spare.own.is_empty()
     }
 
-    fn parcel(local: &mut TallyLocal) -> Items {
+    fn parcel(local: &mut TallyLocal) -> Items<Item> {
         local.items.moved()
     }
 
     fn keep(local: &mut TallyLocal) {
         mem::swap(&mut local.active, &mut local.spare);
-        local.spare.time = 0;
-        local.spare.source = 0;
-        local.spare.homes = Members::all(0);
-        local.spare.own.clear();
-        local.spare.other.clear();
+        local.spare.clear();
     }
 
     fn restore(
@@ -157,7 +154,7 @@ impl RankProgram for Tally {
 
     fn measure(msg: &TallyMessage) -> Measure {
         Measure {
-            blocks: (msg.items.count() % 4294967296) as u32,
+            blocks: (msg.items.len() % 4294967296) as u32,
             sum: u64::from(msg.total),
         }
     }

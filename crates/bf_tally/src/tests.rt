@@ -3,8 +3,10 @@ ghost use Rattle.std.specs.Prelude.{◌≡◌};
 
 use crate::calls::{add_up, go_back, hear, snap, told};
 use crate::peers::peers_of;
-use crate::{Items, Stage, Tally, TallyLocal, TallyMessage, TallySetup, TallySide, opened};
+use crate::{Item, Stage, Tally, TallyLocal, TallyMessage, TallySetup, opened};
 use bf_buddy::Members;
+use bf_items::Items;
+use bf_parts::Side;
 use bf_program::{Epoch, Measure, Memory, RankProgram};
 use std::alloc::Global;
 use std::process::Abort;
@@ -83,31 +85,31 @@ fn snapshot(alloc: Global, all: Members, three: &mut Three) -> Result<(), Memory
     snap(alloc, &mut three.c, 0, 1, all)
 }
 
-fn value_at(items: &Items, place: usize) -> Option<u32> {
-    items.at(place).map(|item| item.value)
+fn value_at(items: &Items<Item>, place: usize) -> Option<u32> {
+    items.as_slice().get(place).map(|item| item.value)
 }
 
 // The asserts stand in small functions, since their proofs take all that is known before them.
-fn expect_one(rt: &impl Abort, items: &Items, value: u32) {
-    assert_eq!(rt; items.count(), 1);
+fn expect_one(rt: &impl Abort, items: &Items<Item>, value: u32) {
+    assert_eq!(rt; items.len(), 1);
     assert_eq!(rt; value_at(items, 0), Some(value));
 }
 
-fn expect_two(rt: &impl Abort, items: &Items, first: u32, second: u32) {
-    assert_eq!(rt; items.count(), 2);
+fn expect_two(rt: &impl Abort, items: &Items<Item>, first: u32, second: u32) {
+    assert_eq!(rt; items.len(), 2);
     assert_eq!(rt; value_at(items, 0), Some(first));
     assert_eq!(rt; value_at(items, 1), Some(second));
 }
 
-fn expect_none(rt: &impl Abort, items: &Items) {
-    assert_eq!(rt; items.count(), 0);
+fn expect_none(rt: &impl Abort, items: &Items<Item>) {
+    assert_eq!(rt; items.len(), 0);
 }
 
 fn expect_filled(rt: &impl Abort, local: &TallyLocal, filled: bool) {
     assert_eq!(rt; Tally::filled(local), filled);
 }
 
-fn expect_side(rt: &impl Abort, side: &TallySide, time: u32, source: u32) {
+fn expect_side(rt: &impl Abort, side: &Side<Item>, time: u32, source: u32) {
     assert_eq!(rt; side.time, time);
     assert_eq!(rt; side.source, source);
 }

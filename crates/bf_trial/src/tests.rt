@@ -5,7 +5,8 @@ ghost use Rattle.std.specs.Prelude.{◌≡◌};
 
 use crate::run;
 use bf_core::Outcome;
-use bf_tally::{Items, Tally, TallySetup};
+use bf_items::Items;
+use bf_tally::{Item, Tally, TallySetup};
 use bf_world::World;
 use std::process::Abort;
 use std::test::Fail;
@@ -21,38 +22,44 @@ fn three(first: Option<u32>, second: Option<u32>) -> TallySetup
 }
 
 // Whether an item is among others with its value.
-fn has(items: &Items, id: u32, value: u32) -> bool {
-    for place in 0..items.count() {
-        if let Some(item) = items.at(place) {
-            if item.id == id && item.value == value {
-                return true;
-            }
+fn has(items: &Items<Item>, id: u32, value: u32) -> bool {
+    for item in items.as_slice() {
+        if item.id == id && item.value == value {
+            return true;
         }
     }
     false
 }
 
-fn is_given(parcels: &[(u32, Items)], id: u32, value: u32) -> bool {
+fn is_given(parcels: &[(u32, Items<Item>)], id: u32, value: u32) -> bool {
     parcels.iter().any(|parcel| has(&parcel.1, id, value))
 }
 
-fn count(parcels: &[(u32, Items)]) -> usize {
+fn count(parcels: &[(u32, Items<Item>)]) -> usize {
     let mut count = 0usize;
     for parcel in parcels {
-        count = count.wrapping_add(parcel.1.count());
+        count = count.wrapping_add(parcel.1.len());
     }
     count
 }
 
-fn total(parcels: &[(u32, Items)]) -> u32 {
+fn sum(items: &Items<Item>) -> u32 {
+    let mut sum = 0u32;
+    for item in items.as_slice() {
+        sum = sum.wrapping_add(item.value);
+    }
+    sum
+}
+
+fn total(parcels: &[(u32, Items<Item>)]) -> u32 {
     let mut total = 0u32;
     for parcel in parcels {
-        total = total.wrapping_add(parcel.1.total());
+        total = total.wrapping_add(sum(&parcel.1));
     }
     total
 }
 
-fn expect_parcels(rt: &impl Abort, parcels: &[(u32, Items)]) {
+fn expect_parcels(rt: &impl Abort, parcels: &[(u32, Items<Item>)]) {
     assert_eq!(rt; count(parcels), 3);
     assert_eq!(rt; total(parcels), 96);
     assert!(rt; is_given(parcels, 0, 31));
@@ -162,5 +169,21 @@ fn the_most_ranks_take_the_most_steps(rt: HostRuntime) -> Result<(), Fail> {
         let value = rank.wrapping_add(2_693_826_561);
         assert!(rt; is_given(world.parcels(), rank, value));
     }
+    Ok(())
+}
+
+// Five worlds of the most ranks and steps, each with other buddies: 5 * 253,952 events are 1,269,760. The buddies change
+// no value.
+#[test]
+fn five_worlds_have_more_than_a_million_events(rt: HostRuntime) -> Result<(), Fail> {
+    let mut events = 0usize;
+    for shift in 0..5u32 {
+        let setup = TallySetup::new(32, 32, 128, 16, shift, [None; 32]);
+        let world = run(rt.alloc(), setup, &[])?;
+        assert_eq!(rt; world.outcome(), Some(Outcome::Finished));
+        assert!(rt; is_given(world.parcels(), 0, 2_693_826_561));
+        events = events.wrapping_add(world.journal().len());
+    }
+    assert!(rt; events > 1_269_760);
     Ok(())
 }

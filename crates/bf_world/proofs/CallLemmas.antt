@@ -1,5 +1,5 @@
 -- The calls of a world: each notes a legal event, and leaves a world.
-use Rattle.std.proofs.Common.{◌≡◌, ℕ, ◌+◌, ◌*◌, ◌<◌, ◌≤◌, min, Bool, true, false, ◌&&◌, ◌||◌, not, List, [], ◌∷◌, ◌++◌, filter, drop, length, arith, refl, sym, subst, ◌∙◌, ap}
+use Rattle.std.proofs.Common.{◌≡◌, ℕ, ◌+◌, ◌-◌, ◌*◌, ◌^◌, ◌<◌, ◌≤◌, Bool, true, false, ◌&&◌, ◌||◌, not, List, [], ◌∷◌, ◌++◌, filter, drop, length, arith, refl, sym, subst, ◌∙◌, ap}
 use Rattle.std.specs.Prelude.{◌==◌, Option, Some, None, slice_get, if◌then◌else◌}
 use Rattle.std.proofs.lemmas.Bool.{eq-eqb, eqb-true}
 use Rattle.std.proofs.lemmas.Option.{slice_get_within}
@@ -36,6 +36,7 @@ use Rattle.bf_world.proofs.WaitingLemmas.{GoBetween, between, queue_length, sett
 use Rattle.bf_world.proofs.MessageLemmas.{receives_from_peer}
 use Rattle.bf_world.proofs.NeedLemmas.{need_short, need_left, need_died}
 use Rattle.bf_world.proofs.StopLemmas.{is_stopped, no_restore, waiting_told, parcels_told, restores_told}
+use Rattle.bf_world.proofs.WeightLemmas.{restores_few}
 use Rattle.bf_world.proofs.WorldLemmas.{and_both, just_same, room_left, its_lawful, legal_alone, need_within, world_next}
 
 -- what is asked of a world as it is seen, of its fields
@@ -65,11 +66,15 @@ module _ {S L M T R : Type 0} (m : Meanings S L M T R) (good : S → Epoch → �
   lawful : IsLawful m good setup goods stores (run_after m setup noted.events)
   lawful = its_lawful m good setup limits goods stores peers core waiting noted parcels restores world
 
+  -- so few restores have come that one more can be counted
+  pub countable : restores < 2 ^ 32 - 1
+  countable = omega (arith, world.restores_are, restores_few m good setup goods stores peers limits noted.events world.legal, limits.ranks)
+
   -- an event that decides nothing brings no restore
   brings_none : (event : Event) → may_decide event ≡ false
-      → restores ≡ (if brings_restore m setup run event then min (restores + 1) 4294967295 else restores)
+      → restores ≡ (if brings_restore m setup run event then restores + 1 else restores)
   unfolding brings_restore brings_decision
-  brings_none event never = ap (λ b. if b then min (restores + 1) 4294967295 else restores) (sym (none (may_decide event) never _ _))
+  brings_none event never = ap (λ b. if b then restores + 1 else restores) (sym (none (may_decide event) never _ _))
     where
       none : (b : Bool) → b ≡ false → (c : Bool) (made : Decision) → is_restore (b && c) made ≡ false
       none true may c made = absurd (cc)

@@ -20,6 +20,11 @@ use Rattle.bf_core.specs.Places.{is_just, next_receive}
 use Rattle.bf_core.specs.States.{State, stage, is_active, is_short_of_memory, is_finished, opening}
 use Rattle.bf_core.specs.Legal.{actor, is_legal, waits, is_memory}
 use Rattle.bf_core.specs.Next.{with_stage, may_decide, happened, is_ripe, decision, decided, settled, next}
+use Rattle.std.specs.Prelude.{◌==◌, All}
+use Rattle.bf_buddy.specs.Members.{is_member}
+use Rattle.std.proofs.Math.ListN.{get_or}
+use Rattle.std.proofs.lemmas.Bool.{eqb-true}
+use Rattle.bf_core.proofs.ListLemmas.{found}
 use Rattle.bf_core.proofs.StageLemmas.{Someone, someone, nobody_any, is_rank, stage_same, stage_other}
 use Rattle.bf_core.proofs.SoundLemmas.{is_open, first_of_two, acting, in_list, leaving_stage, opening_fails}
 use Rattle.bf_core.proofs.ArrivalLemmas.{has_ended, decided_stage}
@@ -131,6 +136,12 @@ or_assoc false b c = refl
 or_none : (a : Bool) → a ≡ (a || false)
 or_none true = refl
 or_none false = refl
+
+-- what holds of all listed holds of each
+pub listed_all : (homes xs : List ℕ) (x : ℕ) → All (λ home. is_member homes home ≡ true) xs → is_member xs x ≡ true → is_member homes x ≡ true
+listed_all homes xs x all member =
+    let at : (i : ℕ) × ((i < length xs) × ((get_or xs i 0 == x) ≡ true)) = found (λ y. y == x) xs 0 member in
+    ap (is_member homes) (sym (eqb-true _ x at.1.1)) ∙ all at.0 0 at.1.0
 
 -- after an end no message waits
 record HasNoQueues (state : State) : Type 0 where

@@ -57,18 +57,6 @@ first_and_rest [] x none = absurd (cc)
 first_and_rest (y ∷ ys) x first = ap (λ z. z ∷ ys) (same_Some y x first)
 
 module _ {S L M T R : Type 0} (m : Meanings S L M T R) (setup : S) where
-  -- no place, start or epoch changes
-  pub core_holds : (run after : Run L T) (waiting : Waiting M) → after.core.epoch ≡ run.core.epoch → after.start ≡ run.start → after.places ≡ run.places
-      → HoldsMessages m setup run waiting → HoldsMessages m setup after waiting
-  core_holds run after waiting same_epoch same_start same_places held =
-      let P : Epoch → List L → List Place → Type 0 = λ epoch start places.
-      (from to : ℕ) → from < waiting.ranks → to < waiting.ranks
-      → received_from m setup epoch start to from (get_or places to Past) ++ messages waiting from to
-      ≡ sent_to m setup epoch start from to (get_or places from Past) in
-      let at_epoch : P after.core.epoch run.start run.places = subst (λ epoch. P epoch run.start run.places) (sym same_epoch) held.holds in
-      let at_start : P after.core.epoch after.start run.places = subst (λ start. P after.core.epoch start run.places) (sym same_start) at_epoch in
-      record { holds = subst (λ places. P after.core.epoch after.start places) (sym same_places) at_start }
-
   pub arrived_holds : (run : Run L T) (waiting : Waiting M) (rank : ℕ) (how : How) → HoldsMessages m setup run waiting
       → HoldsMessages m setup (run_happened m setup run (Arrive rank how)) waiting
   arrived_holds run waiting rank how held = record { holds = held.holds }

@@ -39,7 +39,7 @@ use Rattle.bf_core.specs.States.{first_lost}
 use Rattle.bf_core.specs.declared.outcome.Outcome.TheVariants as outcomes
 use Rattle.bf_core.proofs.StageLemmas.{is_rank, stage_dissolved}
 use Rattle.bf_core.proofs.ArrivalLemmas.{IsFair, next_fair, opening_fair}
-use Rattle.bf_core.proofs.LawLemmas.{IsSameEpoch, same_epoch, running_where_ripe, commit_needs_members, restore_when_whole}
+use Rattle.bf_core.proofs.LawLemmas.{IsSameEpoch, same_epoch, running_where_ripe, commit_needs_members, restore_when_whole, second_of_two}
 use Rattle.bf_world.proofs.MemberLemmas.{Apart, apart_range, keys_filtered, filter_on, test_of}
 use Rattle.bf_core.proofs.SoundLemmas.{IsSound, IsMoved, moved_stage, first_of_two, acting, in_list, leaving_stage, next_sound, opening_sound, opening_unarrived}
 use Rattle.bf_world.specs.Course.{first_place, after_send, after_receive}
@@ -47,13 +47,9 @@ use Rattle.bf_world.specs.Runs.{Run, place, begun, first_places, last_locals, wi
 use Rattle.bf_world.proofs.PlaceLemmas.{IsPlaced, placed_send, placed_receive, placed_from}
 
 -- the number that there may be
-just : (o : Option ℕ) (n : ℕ) → is_just o n ≡ true → o ≡ Some n
+pub just : (o : Option ℕ) (n : ℕ) → is_just o n ≡ true → o ≡ Some n
 just (Some k) n same = ap Some (eqb-true k n same)
 just None n none = absurd (cc)
-
-second_of_two : (a b : Bool) → (a && b) ≡ true → b ≡ true
-second_of_two true b holds = holds
-second_of_two false b holds = absurd (cc)
 
 abbrev filled_in : Stage → Bool
 filled_in (Arrived how filled) = filled
@@ -272,6 +268,19 @@ module _ {S L M T R : Type 0} (m : Meanings S L M T R) (good : S → Epoch → �
     done = λ rank filled arrived. absurd (undone rank filled arrived);
   }
 
+-- the core after a decision
+module _ {S L M T R : Type 0} (m : Meanings S L M T R) (setup : S) where
+  pub decided_core : (run : Run L T) (made : Decision) → (run_decided m setup run made).core ≡ decided run.core made
+  decided_core run (Lose home buddy) = refl
+  decided_core run WantMemory = refl
+  decided_core run Commit = at_end (run.core.epoch.target == run.core.steps)
+    where
+      at_end : (b : Bool) → (if b then record run { core = decided run.core Commit } else begun m setup (decided run.core Commit) (map m.keep (last_locals m setup run)) run.parcels).core
+          ≡ decided run.core Commit
+      at_end true = refl
+      at_end false = refl
+  decided_core run Restore = refl
+
 -- who finished its rounds arrived done
 finished_arrival : (s : Stage) → has_finished_rounds s ≡ true → (filled : Bool) × (s ≡ Arrived Done filled)
 finished_arrival (Arrived Done filled) _ = (filled, refl)
@@ -376,23 +385,12 @@ module _ {S L M T R : Type 0} (m : Meanings S L M T R) (good : S → Epoch → �
       at_end false unended = committed_steady run run.parcels steady apart (all_done refl) unended
   decided_steady run Restore steady apart all_done whole = restored_steady run steady (whole refl)
 
-  decided_core : (run : Run L T) (made : Decision) → (run_decided m setup run made).core ≡ decided run.core made
-  decided_core run (Lose home buddy) = refl
-  decided_core run WantMemory = refl
-  decided_core run Commit = at_end (run.core.epoch.target == run.core.steps)
-    where
-      at_end : (b : Bool) → (if b then record run { core = decided run.core Commit } else begun m setup (decided run.core Commit) (map m.keep (last_locals m setup run)) run.parcels).core
-          ≡ decided run.core Commit
-      at_end true = refl
-      at_end false = refl
-  decided_core run Restore = refl
-
   settled_core : (run : Run L T) → (run_settled m setup run).core ≡ settled run.core
   unfolding settled
   settled_core run = by_ripe (is_ripe run.core)
     where
       by_ripe : (b : Bool) → (if b then run_decided m setup run (decision run.core) else run).core ≡ (if b then decided run.core (decision run.core) else run.core)
-      by_ripe true = decided_core run (decision run.core)
+      by_ripe true = decided_core m setup run (decision run.core)
       by_ripe false = refl
 
   -- the core after an event

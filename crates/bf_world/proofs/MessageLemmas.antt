@@ -302,11 +302,6 @@ module _ {S L M T R : Type 0} (m : Meanings S L M T R) (setup : S) (epoch : Epoc
         (placed_peer rank peer round sent received received all placed (receives_at m setup epoch start round sent received peer all receives).1),
   )
 
-  -- the next message is sent
-  pub next_message : (rank to : ℕ) (place : Place) → IsPlaced m setup epoch start rank place → next_send place ≡ Some to
-      → (msg : M) × (message_at m setup epoch start rank to (round_of place) ≡ Some msg)
-  next_message rank to place placed sends = peer_message rank to (round_of place) (sends_to_peer rank to place placed sends).1
-
   -- where a sender stands against a round of the receiver, by what waits
   pub data Against (from to round : ℕ) (queue : List M) (its : Place) : Type 0 where
     Earlier : (its_round sent received : ℕ) (all : List ℕ) → its ≡ Rounds its_round sent received all → its_round < round → queue ≡ [] → Against from to round queue its

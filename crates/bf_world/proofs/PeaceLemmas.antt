@@ -1,5 +1,5 @@
 -- A run in which no rank is due to die: nobody dies or waits in vain, no part is lost, and nothing is restored.
-use Rattle.std.proofs.Common.{◌≡◌, ℕ, zero, suc, ◌+◌, ◌<◌, min, Bool, true, false, cond, ◌&&◌, ◌||◌, List, [], ◌∷◌, map, filter, length, arith, refl, sym, subst, ◌∙◌, ap, inl, inr}
+use Rattle.std.proofs.Common.{◌≡◌, ℕ, zero, suc, ◌+◌, ◌<◌, Bool, true, false, cond, ◌&&◌, ◌||◌, List, [], ◌∷◌, map, filter, length, arith, refl, sym, subst, ◌∙◌, ap, inl, inr}
 use Rattle.std.specs.Prelude.{◌==◌, Option, Some, None, is_some, if◌then◌else◌}
 use Rattle.std.specs.List.{range_with_len, flat_map, list_any}
 use Rattle.std.specs.Map.{lookup}
@@ -34,7 +34,7 @@ use Rattle.bf_core.proofs.ArrivalLemmas.{IsFair, happened_fair}
 use Rattle.bf_core.proofs.LawLemmas.{Losses, same_epoch, running_where_ripe, second_of_two, decision_lost, next_settles, next_happens, ripe_decides, unripe_waits}
 use Rattle.bf_world.specs.Ends.{NobodyDies, tells_of_death}
 use Rattle.bf_world.specs.Runs.{Run, place, death_with, deaths, will_be_filled, opening_run, next_run, is_legal_in, run_from, is_legal_from, is_journal}
-use Rattle.bf_world.specs.Worlds.{is_restore, brings_decision, brings_restore, restores_from}
+use Rattle.bf_world.specs.Worlds.{is_restore, brings_decision, brings_restore, restores_from, restores_in}
 use Rattle.bf_world.proofs.LawfulLemmas.{IsLawful, core_next, next_lawful, opening_lawful}
 use Rattle.bf_world.proofs.WaitingLemmas.{member_below}
 use Rattle.bf_world.proofs.WeightLemmas.{someone_dead}
@@ -291,7 +291,7 @@ module _ {S L M T R : Type 0} (m : Meanings S L M T R) (good : S → Epoch → �
         peaceful = rest.peaceful;
         quiet = ap (λ b. b || list_any tells_of_death events) (tells_none losses run.core event (place run (actor event)) filled lawful.sound lawful.fair core_legal peaceful) ∙ rest.quiet;
         kept = λ before.
-            ap (λ b. restores_from m setup (next_run m setup run event) events (if b then min (before + 1) 4294967295 else before))
+            ap (λ b. restores_from m setup (next_run m setup run event) events (if b then before + 1 else before))
             (not_restore losses run.core event (place run (actor event)) filled lawful.sound lawful.fair core_legal peaceful (may_decide event)
             (is_ripe (happened run.core event (will_be_filled m setup run (actor event)))) (λ ripe. ripe))
             ∙ rest.kept before;
@@ -301,3 +301,10 @@ module _ {S L M T R : Type 0} (m : Meanings S L M T R) (good : S → Epoch → �
   unfolding is_journal
   after_peaceful limits nobody_dies journal legal =
       from_peaceful (opening_run m setup) journal (opening_lawful m good setup goods stores limits) legal (opening_peaceful m setup nobody_dies)
+
+  pub restores_nothing : KeepsLimits m setup → NobodyDies m setup → (journal : List Event) → is_journal m setup journal ≡ true
+      → (restores_in m setup journal ≡ 0) × (list_any tells_of_death journal ≡ false)
+  unfolding restores_in
+  restores_nothing limits nobody_dies journal legal =
+      let stays : StaysPeaceful (opening_run m setup) journal = after_peaceful limits nobody_dies journal legal in
+      (stays.kept 0, stays.quiet)

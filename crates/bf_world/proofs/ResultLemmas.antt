@@ -27,7 +27,7 @@ use Rattle.bf_core.specs.Legal.{is_legal, waits, actor}
 use Rattle.bf_core.specs.Next.{with_stage, may_decide, happened, is_ripe, decision, decided, dissolved, ended, committed, restored}
 use Rattle.bf_core.proofs.StageLemmas.{is_rank, stage_dissolved}
 use Rattle.bf_core.proofs.SoundLemmas.{IsMoved, is_open, moved_stage, same_tests, first_of_two, acting, in_list, leaving_stage, not_gone, opening_fails}
-use Rattle.bf_core.proofs.LawLemmas.{IsStep, step_of, IsSameEpoch, same_epoch, running_where_ripe, commit_needs_members}
+use Rattle.bf_core.proofs.LawLemmas.{IsStep, step_of, IsSameEpoch, same_epoch, running_where_ripe, commit_needs_members, second_of_two}
 use Rattle.bf_world.specs.Course.{local_at}
 use Rattle.bf_world.specs.Results.{parcels_of}
 use Rattle.bf_world.specs.Runs.{Run, place, begun, deaths, last_locals, will_be_filled, parcel_with, parcel_of, run_happened, run_decided, run_settled, next_run, is_legal_in, opening_run, run_from, is_legal_from, run_after, is_journal}
@@ -86,10 +86,6 @@ differs_back a b differs = by_test (b == a) refl
     by_test : (c : Bool) → (b == a) ≡ c → c ≡ false
     by_test true same = absurd (differs (sym (eqb-true b a same)))
     by_test false _ = refl
-
-second_of_two : (a b : Bool) → (a && b) ≡ true → b ≡ true
-second_of_two true b holds = holds
-second_of_two false b holds = absurd (cc)
 
 module _ {S L M T R : Type 0} (m : Meanings S L M T R) (setup : S) where
   -- the parcel of a member once all rounds of an epoch are done

@@ -1,5 +1,5 @@
 -- The run that a journal tells, once one event more has happened, and how many events it counts.
-use Rattle.std.proofs.Common.{◌≡◌, ℕ, zero, ◌+◌, ◌*◌, ◌≤◌, min, Bool, true, false, ◌&&◌, List, [], ◌∷◌, ◌++◌, map, length, replicate, get_or, arith, refl, sym, subst, ap, inl, inr}
+use Rattle.std.proofs.Common.{◌≡◌, ℕ, zero, ◌+◌, ◌*◌, ◌≤◌, Bool, true, false, ◌&&◌, List, [], ◌∷◌, ◌++◌, map, length, replicate, get_or, arith, refl, sym, subst, ap, inl, inr}
 use Rattle.std.specs.Prelude.{◌==◌, if◌then◌else◌}
 use Rattle.std.specs.List.{range_with_len}
 use Rattle.std.specs.Map.{lookup}
@@ -46,13 +46,13 @@ module _ {S L M T R : Type 0} (m : Meanings S L M T R) (setup : S) where
   journal_more journal event before legal = legal_from_more (opening_run m setup) journal event before legal
 
   restores_from_more : (run : Run L T) (journal : List Event) (event : Event) (before : ℕ) → restores_from m setup run (journal ++ event ∷ []) before
-      ≡ (if brings_restore m setup (run_from m setup run journal) event then min (restores_from m setup run journal before + 1) 4294967295
+      ≡ (if brings_restore m setup (run_from m setup run journal) event then restores_from m setup run journal before + 1
       else restores_from m setup run journal before)
   restores_from_more run [] event before = refl
   restores_from_more run (first ∷ journal) event before = restores_from_more (next_run m setup run first) journal event _
 
   pub restores_more : (journal : List Event) (event : Event) → restores_in m setup (journal ++ event ∷ [])
-      ≡ (if brings_restore m setup (run_after m setup journal) event then min (restores_in m setup journal + 1) 4294967295 else restores_in m setup journal)
+      ≡ (if brings_restore m setup (run_after m setup journal) event then restores_in m setup journal + 1 else restores_in m setup journal)
   unfolding restores_in run_after
   restores_more journal event = restores_from_more (opening_run m setup) journal event 0
 

@@ -1,5 +1,5 @@
 -- What an arrival or a death leaves, told from the state after it.
-use Rattle.std.proofs.Common.{◌≡◌, ℕ, ◌+◌, min, Bool, true, false, ◌&&◌, ◌||◌, not, [], map, refl, sym, ◌∙◌, ap}
+use Rattle.std.proofs.Common.{◌≡◌, ℕ, ◌+◌, Bool, true, false, ◌&&◌, ◌||◌, not, [], map, refl, sym, ◌∙◌, ap}
 use Rattle.std.specs.Prelude.{◌==◌, is_some, if◌then◌else◌}
 use Rattle.bf_program.specs.Meanings.{Meanings}
 use Rattle.bf_core.specs.declared.decision.Decision.{Decision}
@@ -12,8 +12,8 @@ use Rattle.bf_core.specs.Stages.{is_arrived, is_dead, after_decision}
 use Rattle.bf_core.specs.States.{State, stage, has_everyone_arrived}
 use Rattle.bf_core.specs.Legal.{actor}
 use Rattle.bf_core.specs.Next.{may_decide, happened, is_ripe, decision, decided, settled, dissolved, ended, committed}
-use Rattle.bf_core.proofs.StageLemmas.{stage_dissolved}
 use Rattle.bf_core.proofs.SoundLemmas.{first_of_two}
+use Rattle.bf_core.proofs.ArrivalLemmas.{decided_stage}
 use Rattle.bf_world.specs.Queues.{Waiting, no_messages}
 use Rattle.bf_world.specs.Runs.{Run, begun, last_locals, will_be_filled, run_happened, run_decided, run_settled, next_run}
 use Rattle.bf_world.specs.Settled.{is_decided, is_restored, waiting_settled, parcels_settled, restores_settled}
@@ -22,18 +22,6 @@ use Rattle.bf_world.specs.Worlds.{is_restore, brings_decision, brings_restore}
 -- whether a rank has arrived or died in an epoch that is not decided
 abbrev pub is_stopped : Stage → Bool
 is_stopped stage = is_arrived stage || is_dead stage
-
--- a decision changes each stage alike
-stage_decided : (state : State) (made : Decision) (rank : ℕ) → stage (decided state made) rank ≡ after_decision (stage state rank)
-unfolding decided
-stage_decided state (Lose home buddy) rank = stage_dissolved state rank
-stage_decided state WantMemory rank = stage_dissolved state rank
-stage_decided state Commit rank = by_end (state.epoch.target == state.steps)
-  where
-    by_end : (b : Bool) → stage (if b then ended state outcomes.Finished else committed state) rank ≡ after_decision (stage state rank)
-    by_end true = stage_dissolved state rank
-    by_end false = stage_dissolved state rank
-stage_decided state Restore rank = stage_dissolved state rank
 
 moves_on : (s : Stage) → is_stopped (after_decision s) ≡ false
 moves_on Running = refl
@@ -49,7 +37,7 @@ unfolding settled
 shows state rank stopped = by_ripe (is_ripe state)
   where
     by_ripe : (b : Bool) → is_decided (if b then decided state (decision state) else state) rank ≡ b
-    by_ripe true = ap (λ s. not (is_stopped s)) (stage_decided state (decision state) rank) ∙ ap not (moves_on (stage state rank))
+    by_ripe true = ap (λ s. not (is_stopped s)) (decided_stage state (decision state) rank) ∙ ap not (moves_on (stage state rank))
     by_ripe false = ap not stopped
 
 not_true : (b : Bool) → not b ≡ true → b ≡ false
@@ -131,5 +119,5 @@ module _ {S L M T R : Type 0} (m : Meanings S L M T R) (setup : S) where
         ∙ sym (parcels_when_settled (run_happened m setup run event))
         ∙ ap (λ b. (if b then run_settled m setup (run_happened m setup run event) else run_happened m setup run event).parcels) (sym may)
 
-    pub restores_told : (before : ℕ) → restores_settled after rank before ≡ (if brings_restore m setup run event then min (before + 1) 4294967295 else before)
-    restores_told before = ap (λ b. if b then min (before + 1) 4294967295 else before) restore_told
+    pub restores_told : (before : ℕ) → restores_settled after rank before ≡ (if brings_restore m setup run event then before + 1 else before)
+    restores_told before = ap (λ b. if b then before + 1 else before) restore_told

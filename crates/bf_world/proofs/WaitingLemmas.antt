@@ -21,24 +21,17 @@ use Rattle.bf_core.specs.Orders.{IsBehind}
 use Rattle.bf_core.specs.States.{State, stage, queue, channel, is_active, opening}
 use Rattle.bf_core.specs.Legal.{is_legal, is_empty_from}
 use Rattle.bf_core.specs.Next.{dissolved, ended, committed, decided, is_ripe, decision}
+use Rattle.bf_core.proofs.LawLemmas.{second_of_two}
 use Rattle.bf_core.proofs.SoundLemmas.{IsSound, is_open, first_of_two, acting, in_list}
 use Rattle.bf_world.specs.Course.{peers_at, message_at}
 use Rattle.bf_world.specs.Messages.{HoldsMessages, AreQueuesOf}
 use Rattle.bf_world.specs.Queues.{Waiting, messages, with_messages, no_messages, lengths, IsSquare}
 use Rattle.bf_world.specs.Runs.{Run, place, round_of, begun, last_locals, opening_run, run_happened, run_decided, run_settled, next_run}
-use Rattle.bf_world.proofs.LawfulLemmas.{IsSteady}
+use Rattle.bf_world.proofs.LawfulLemmas.{just, IsSteady, decided_core}
 use Rattle.bf_world.proofs.QueueLemmas.{still_square, lengths_after, lengths_of_none, length_at}
 use Rattle.bf_world.proofs.PeerLemmas.{peer_is_other}
 use Rattle.bf_world.proofs.MessageLemmas.{sends_to_peer, receives_from_peer}
 use Rattle.bf_world.proofs.HoldLemmas.{begun_holds, arrived_holds, left_holds, died_holds, sent_holds, received_holds, front_waits, sender_behind}
-
-just : (o : Option ℕ) (n : ℕ) → is_just o n ≡ true → o ≡ Some n
-just (Some k) n same = ap Some (eqb-true k n same)
-just None n none = absurd (cc)
-
-second_of_two : (a b : Bool) → (a && b) ≡ true → b ≡ true
-second_of_two true b holds = holds
-second_of_two false b holds = absurd (cc)
 
 -- the members of a filtered range are below its end
 pub below_end : (p : ℕ → Bool) (k n y : ℕ) → is_member (filter p (range_with_len k n)) y ≡ true → y < k + n
@@ -141,17 +134,6 @@ module _ {S L M T R : Type 0} (m : Meanings S L M T R) (setup : S) where
   left_queues run waiting rank its =
       record { ranks = its.ranks; square = its.square; counts = its.counts; holds = λ none. left_holds m setup run waiting rank (its.holds none) }
 
-  decided_core : (run : Run L T) (made : Decision) → (run_decided m setup run made).core ≡ decided run.core made
-  decided_core run (Lose home buddy) = refl
-  decided_core run WantMemory = refl
-  decided_core run Commit = by_end (run.core.epoch.target == run.core.steps)
-    where
-      by_end : (b : Bool) → (if b then record run { core = decided run.core Commit }
-          else begun m setup (decided run.core Commit) (map m.keep (last_locals m setup run)) run.parcels).core ≡ decided run.core Commit
-      by_end true = refl
-      by_end false = refl
-  decided_core run Restore = refl
-
   -- after a decision nothing waits, and where the run goes on, each rank is at its first place
   decided_holds : (run : Run L T) (made : Decision) → (run_decided m setup run made).core.outcome ≡ None
       → HoldsMessages m setup (run_decided m setup run made) (no_messages (m.ranks setup))
@@ -186,7 +168,7 @@ module _ {S L M T R : Type 0} (m : Meanings S L M T R) (setup : S) where
         ranks = refl;
         square = none_square (m.ranks setup);
         counts = lengths_of_none M (m.ranks setup) ∙ ap (λ n. replicate n 0) (sym every)
-            ∙ sym (ap (λ c. c.queues) (decided_core run made) ∙ decided_queues run.core made);
+            ∙ sym (ap (λ c. c.queues) (decided_core m setup run made) ∙ decided_queues run.core made);
         holds = decided_holds run made;
       }
 
@@ -198,18 +180,6 @@ module _ {S L M T R : Type 0} (m : Meanings S L M T R) (setup : S) where
       by_ripe : (b : Bool) → AreQueuesOf m setup (if b then run_decided m setup run (decision run.core) else run) (if b then no_messages (m.ranks setup) else waiting)
       by_ripe true = decided_queues_of run waiting (decision run.core) its
       by_ripe false = its
-
-  pub arrive_queues : (run : Run L T) (waiting : Waiting M) (rank : ℕ) (how : How) → AreQueuesOf m setup run waiting
-      → AreQueuesOf m setup (next_run m setup run (Arrive rank how))
-      (if is_ripe (run_happened m setup run (Arrive rank how)).core then no_messages (m.ranks setup) else waiting)
-  unfolding next_run
-  arrive_queues run waiting rank how its = settled_queues (run_happened m setup run (Arrive rank how)) waiting (arrived_queues run waiting rank how its)
-
-  pub die_queues : (run : Run L T) (waiting : Waiting M) (rank : ℕ) → AreQueuesOf m setup run waiting
-      → AreQueuesOf m setup (next_run m setup run (Die rank))
-      (if is_ripe (run_happened m setup run (Die rank)).core then no_messages (m.ranks setup) else waiting)
-  unfolding next_run
-  die_queues run waiting rank its = settled_queues (run_happened m setup run (Die rank)) waiting (died_queues run waiting rank its)
 
 module _ {S L M T R : Type 0} (m : Meanings S L M T R) (good : S → Epoch → ℕ → List L → Type 0) (setup : S)
     (goods : KeepsGood m good setup) (peers : KeepsPeers m good setup) where

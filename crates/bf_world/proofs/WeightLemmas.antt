@@ -1,11 +1,12 @@
 -- A number that every legal event of a lawful run lowers.
-use Rattle.std.proofs.Common.{◌≡◌, ◌≢◌, ℕ, zero, suc, ◌+◌, ◌-◌, ◌*◌, ◌^◌, ◌<◌, ◌≤◌, Bool, true, false, ◌&&◌, ◌||◌, not, List, [], ◌∷◌, ◌++◌, map, filter, length, nat_lt, slice_set, arith, refl, sym, subst, ◌∙◌, ap, inl, inr}
-use Rattle.std.specs.Prelude.{◌==◌, sum_by, Option, Some, None, is_some, if◌then◌else◌, slice_get}
+use Rattle.std.proofs.Common.{◌≡◌, ◌≢◌, ℕ, zero, suc, ◌+◌, ◌-◌, ◌*◌, ◌<◌, ◌≤◌, Bool, true, false, ◌&&◌, ◌||◌, not, List, [], ◌∷◌, ◌++◌, map, filter, length, nat_lt, slice_set, arith, refl, sym, subst, ◌∙◌, ap, inl, inr}
+use Rattle.std.specs.Prelude.{◌==◌, Option, Some, None, is_some, if◌then◌else◌, slice_get}
 use Rattle.std.specs.List.{range_with_len}
 use Rattle.std.proofs.Math.Nat.{mul-le-mul_left}
-use Rattle.std.proofs.lemmas.Bool.{cases_eq, eqb-true, eq-eqb, ltb-true, ltb-false}
+use Rattle.std.proofs.lemmas.Bool.{cases_eq, eq-eqb, ltb-true, ltb-false}
 use Rattle.std.proofs.lemmas.List.{get_or-set_same, get_or-set_other}
 use Rattle.std.proofs.lemmas.List.Sums.{sum_by-le-sum_by}
+use Rattle.std.proofs.lemmas.List.FromFn.{length-range_with_len}
 use Rattle.std.proofs.lemmas.Option.{slice_get_within}
 use Rattle.bf_buddy.specs.Members.{is_member}
 use Rattle.bf_buddy.specs.Losses.{first_lost_of}
@@ -35,10 +36,13 @@ use Rattle.bf_core.specs.Next.{with_stage, may_decide, happened, is_ripe, is_eve
 use Rattle.bf_core.proofs.StageLemmas.{nobody, Someone, nobody_any, is_rank, stage_same, stage_other, stage_dissolved}
 use Rattle.bf_core.proofs.SoundLemmas.{IsSound, first_of_two, acting, in_list, leaving_stage, not_gone, same_tests}
 use Rattle.bf_core.proofs.ArrivalLemmas.{IsFair, is_broken, has_ended, happened_fair}
-use Rattle.bf_core.proofs.LawLemmas.{IsStep, step_of, IsSameEpoch, same_epoch, running_where_ripe, second_of_two}
+use Rattle.bf_core.proofs.LawLemmas.{IsStep, step_of, IsSameEpoch, same_epoch, running_where_ripe, second_of_two, next_settles, next_happens, ripe_decides, unripe_waits}
 use Rattle.bf_world.specs.Course.{peers_at, place_with, place_from, after_send, after_receive}
-use Rattle.bf_world.specs.Runs.{Run, place, begun, last_locals, deaths, opening_run, will_be_filled, run_happened, run_decided, run_settled, next_run, is_legal_in, run_from, run_after, is_journal}
-use Rattle.bf_world.proofs.LawfulLemmas.{IsSteady, IsLawful, next_lawful, after_lawful, core_next}
+use Rattle.bf_world.specs.Runs.{Run, place, begun, last_locals, deaths, opening_run, will_be_filled, run_happened, run_decided, run_settled, next_run, is_legal_in, run_from, is_legal_from, run_after, is_journal}
+use Rattle.bf_world.specs.Worlds.{is_restore, brings_decision, brings_restore, restores_from, restores_in}
+use Rattle.bf_world.proofs.StopLemmas.{no_restore}
+use Rattle.bf_world.specs.Weights.{peers_left, steps_left, left_of, epochs_left, most_left, left_of_rank, total, bound, weight}
+use Rattle.bf_world.proofs.LawfulLemmas.{just, IsSteady, IsLawful, next_lawful, opening_lawful, after_lawful, core_next}
 use Rattle.bf_world.proofs.PeerLemmas.{peers_rise, peer_is_other}
 use Rattle.bf_world.proofs.PlaceLemmas.{IsPlaced, receives_at}
 use Rattle.bf_world.proofs.RangeLemmas.{sums_less, sums_most, rising_few, filter_fewer}
@@ -179,61 +183,92 @@ restore_missing state event at filled sound fair legal ripe restores =
     within : dead.0 < state.ranks
     within = omega (arith, is_rank (λ s. not (is_gone s)) state dead.0 refl (ap not here), sound.size)
 
+-- a restore leaves a member behind
+members_decided : (state : State) (made : Decision) → (made ≡ Restore → Missing state)
+    → (if is_restore true made then 1 else 0) + length (decided state made).epoch.members ≤ length state.epoch.members
+unfolding decided dissolved live_members
+members_decided state (Lose home buddy) missing = omega arith
+members_decided state WantMemory missing = omega arith
+members_decided state Commit missing = at_end (state.epoch.target == state.steps)
+  where
+    at_end : (b : Bool) → 0 + length (if b then ended state outcomes.Finished else committed state).epoch.members ≤ length state.epoch.members
+    at_end true = omega arith
+    at_end false = omega arith
+members_decided state Restore missing =
+    omega (arith, filter_fewer (λ rank. lives (stage state rank)) state.epoch.members (missing refl).0 (missing refl).1.0 (missing refl).1.1)
+
+members_next : (state : State) (event : Event) (at : Place) (filled : Bool) → IsSound state → IsFair state → is_legal state event at ≡ true
+    → (if is_restore (may_decide event && is_ripe (happened state event filled)) (decision (happened state event filled)) then 1 else 0) + length (next state event filled).epoch.members
+    ≤ length state.epoch.members
+members_next state event at filled sound fair legal = by_event (may_decide event) refl
+  where
+    same : length (happened state event filled).epoch.members ≡ length state.epoch.members
+    same = ap (λ epoch. length epoch.members) (same_epoch state event filled).epoch
+
+    quiet : (after : State) → after ≡ happened state event filled → (b : Bool) → b ≡ false → (if b then 1 else 0) + length after.epoch.members ≤ length state.epoch.members
+    quiet after is true still = absurd (cc)
+    quiet after is false _ = omega (arith, same, ap (λ s. length s.epoch.members) is)
+
+    by_ripe : (b : Bool) → is_ripe (happened state event filled) ≡ b
+        → (if is_restore b (decision (happened state event filled)) then 1 else 0) + length (settled (happened state event filled)).epoch.members ≤ length state.epoch.members
+    by_ripe true ripe =
+        let P : State → Type 0 = λ after. (if is_restore true (decision (happened state event filled)) then 1 else 0) + length after.epoch.members ≤ length state.epoch.members in
+        subst P (sym (ripe_decides (happened state event filled) ripe))
+        (omega (arith, same, members_decided (happened state event filled) (decision (happened state event filled)) (restore_missing state event at filled sound fair legal ripe)))
+    by_ripe false unripe = quiet _ (unripe_waits (happened state event filled) unripe) _ (no_restore (decision (happened state event filled)))
+
+    by_event : (b : Bool) → may_decide event ≡ b
+        → (if is_restore (b && is_ripe (happened state event filled)) (decision (happened state event filled)) then 1 else 0) + length (next state event filled).epoch.members
+        ≤ length state.epoch.members
+    by_event true may =
+        let P : State → Type 0 = λ after. (if is_restore (is_ripe (happened state event filled)) (decision (happened state event filled)) then 1 else 0) + length after.epoch.members ≤ length state.epoch.members in
+        subst P (sym (next_settles state event filled may)) (by_ripe (is_ripe (happened state event filled)) refl)
+    by_event false may = quiet _ (next_happens state event filled may) _ (no_restore (decision (happened state event filled)))
+
 -- what is left of a rank's course in an epoch
 
 module _ {S L M T R : Type 0} (m : Meanings S L M T R) (setup : S) (epoch : Epoch) (start : List L) where
-  -- how many peers a rank has in so many rounds from one on
-  unfoldable pub peers_left : (rank left round : ℕ) → ℕ
-  peers_left rank zero round = 0
-  peers_left rank (suc left) round = length (peers_at m setup epoch start rank round) + peers_left rank left (round + 1)
-
-  -- how many sends and receives a rank at a place has before it
-  unfoldable pub steps_left : (rank : ℕ) → Place → ℕ
-  steps_left rank (Rounds round sent received peers) =
-      2 * (length peers + peers_left rank (m.rounds setup epoch - (round + 1)) (round + 1)) - (sent + received)
-  steps_left rank Past = 0
-
-  none_past : (rank : ℕ) → steps_left rank Past ≡ 0
+  none_past : (rank : ℕ) → steps_left m setup epoch start rank Past ≡ 0
   unfolding steps_left
   none_past rank = refl
 
-  steps_in : (rank round sent received : ℕ) (peers : List ℕ) → steps_left rank (Rounds round sent received peers)
-      ≡ 2 * (length peers + peers_left rank (m.rounds setup epoch - (round + 1)) (round + 1)) - (sent + received)
+  steps_in : (rank round sent received : ℕ) (peers : List ℕ) → steps_left m setup epoch start rank (Rounds round sent received peers)
+      ≡ 2 * (length peers + peers_left m setup epoch start rank (m.rounds setup epoch - (round + 1)) (round + 1)) - (sent + received)
   unfolding steps_left
   steps_in rank round sent received peers = refl
 
-  peers_left_more : (rank left round : ℕ) → peers_left rank (suc left) round ≡ length (peers_at m setup epoch start rank round) + peers_left rank left (round + 1)
+  peers_left_more : (rank left round : ℕ) → peers_left m setup epoch start rank (suc left) round ≡ length (peers_at m setup epoch start rank round) + peers_left m setup epoch start rank left (round + 1)
   unfolding peers_left
   peers_left_more rank left round = refl
 
-  no_peers_left : (rank round : ℕ) → peers_left rank zero round ≡ 0
+  no_peers_left : (rank round : ℕ) → peers_left m setup epoch start rank zero round ≡ 0
   unfolding peers_left
   no_peers_left rank round = refl
 
   -- from the beginning of a round, two for each peer
-  pub steps_from : (rank left round : ℕ) → round + left ≡ m.rounds setup epoch → steps_left rank (place_from m setup epoch start rank left round) ≡ 2 * peers_left rank left round
+  pub steps_from : (rank left round : ℕ) → round + left ≡ m.rounds setup epoch → steps_left m setup epoch start rank (place_from m setup epoch start rank left round) ≡ 2 * peers_left m setup epoch start rank left round
   unfolding place_from
   steps_from rank zero round whole = none_past rank ∙ ap (λ n. 2 * n) (sym (no_peers_left rank round))
   steps_from rank (suc left) round whole =
       by_peers (peers_at m setup epoch start rank round) refl (steps_from rank left (round + 1) (omega arith))
     where
       by_peers : (peers : List ℕ) → peers_at m setup epoch start rank round ≡ peers
-          → steps_left rank (place_from m setup epoch start rank left (round + 1)) ≡ 2 * peers_left rank left (round + 1)
-          → steps_left rank (place_with round peers (place_from m setup epoch start rank left (round + 1))) ≡ 2 * peers_left rank (suc left) round
+          → steps_left m setup epoch start rank (place_from m setup epoch start rank left (round + 1)) ≡ 2 * peers_left m setup epoch start rank left (round + 1)
+          → steps_left m setup epoch start rank (place_with round peers (place_from m setup epoch start rank left (round + 1))) ≡ 2 * peers_left m setup epoch start rank (suc left) round
       by_peers [] none later = omega (arith, later, peers_left_more rank left round, ap length none)
       by_peers (peer ∷ peers) some later =
           let rest : m.rounds setup epoch - (round + 1) ≡ left = omega (arith, whole) in
           omega (
             arith,
             steps_in rank round 0 0 (peer ∷ peers),
-            ap (λ n. peers_left rank n (round + 1)) rest,
+            ap (λ n. peers_left m setup epoch start rank n (round + 1)) rest,
             peers_left_more rank left round,
             ap length some,
           )
 
   -- a send is one step
   pub send_steps : (rank : ℕ) (place : Place) (to : ℕ) → IsPlaced m setup epoch start rank place → next_send place ≡ Some to
-      → steps_left rank (after_send place) + 1 ≡ steps_left rank place
+      → steps_left m setup epoch start rank (after_send place) + 1 ≡ steps_left m setup epoch start rank place
   send_steps rank Past to placed sends = absurd (cc)
   send_steps rank (Rounds round sent received peers) to placed sends =
       let below : sent < length peers = slice_get_within peers sent to sends in
@@ -241,7 +276,7 @@ module _ {S L M T R : Type 0} (m : Meanings S L M T R) (setup : S) (epoch : Epoc
 
   -- so is a receive
   pub receive_steps : (rank : ℕ) (place : Place) (peer : ℕ) → IsPlaced m setup epoch start rank place → next_receive place ≡ Some peer
-      → steps_left rank (after_receive m setup epoch start rank place) + 1 ≡ steps_left rank place
+      → steps_left m setup epoch start rank (after_receive m setup epoch start rank place) + 1 ≡ steps_left m setup epoch start rank place
   receive_steps rank Past peer placed receives = absurd (cc)
   receive_steps rank (Rounds round sent received peers) peer placed receives = by_last (nat_lt (received + 1) (length peers)) refl
     where
@@ -249,8 +284,8 @@ module _ {S L M T R : Type 0} (m : Meanings S L M T R) (setup : S) (epoch : Epoc
       at = receives_at m setup epoch start round sent received peer peers receives
 
       by_last : (b : Bool) → nat_lt (received + 1) (length peers) ≡ b
-          → steps_left rank (if b then Rounds round sent (received + 1) peers else place_from m setup epoch start rank (m.rounds setup epoch - (round + 1)) (round + 1)) + 1
-          ≡ steps_left rank (Rounds round sent received peers)
+          → steps_left m setup epoch start rank (if b then Rounds round sent (received + 1) peers else place_from m setup epoch start rank (m.rounds setup epoch - (round + 1)) (round + 1)) + 1
+          ≡ steps_left m setup epoch start rank (Rounds round sent received peers)
       by_last true more =
           omega (arith, steps_in rank round sent received peers, steps_in rank round sent (received + 1) peers, placed.sends, ltb-true (received + 1) (length peers) more)
       by_last false last =
@@ -265,18 +300,18 @@ module _ {S L M T R : Type 0} (m : Meanings S L M T R) (setup : S) (epoch : Epoc
           )
 
   peers_left_most : (most rank left round : ℕ) → ((k : ℕ) → k < m.rounds setup epoch → length (peers_at m setup epoch start rank k) ≤ most)
-      → round + left ≡ m.rounds setup epoch → peers_left rank left round ≤ left * most
+      → round + left ≡ m.rounds setup epoch → peers_left m setup epoch start rank left round ≤ left * most
   peers_left_most most rank zero round few whole = omega (arith, no_peers_left rank round)
   peers_left_most most rank (suc left) round few whole =
       omega (arith, peers_left_more rank left round, few round (omega (arith, whole)), peers_left_most most rank left (round + 1) few (omega (arith, whole)))
 
   -- where no round has more peers than some number, a place has no more steps before it than twice that in each round
   pub steps_most : (most rank : ℕ) (place : Place) → ((k : ℕ) → k < m.rounds setup epoch → length (peers_at m setup epoch start rank k) ≤ most)
-      → IsPlaced m setup epoch start rank place → steps_left rank place ≤ 2 * (m.rounds setup epoch * most)
+      → IsPlaced m setup epoch start rank place → steps_left m setup epoch start rank place ≤ 2 * (m.rounds setup epoch * most)
   steps_most most rank Past few placed = omega (arith, none_past rank)
   steps_most most rank (Rounds round sent received peers) few placed =
       let within : round < m.rounds setup epoch = placed.within in
-      let later : peers_left rank (m.rounds setup epoch - (round + 1)) (round + 1) ≤ (m.rounds setup epoch - (round + 1)) * most =
+      let later : peers_left m setup epoch start rank (m.rounds setup epoch - (round + 1)) (round + 1) ≤ (m.rounds setup epoch - (round + 1)) * most =
       peers_left_most most rank (m.rounds setup epoch - (round + 1)) (round + 1) few (omega (arith, within)) in
       let here : length peers ≤ most = subst (λ (xs : List ℕ). length xs ≤ most) (sym placed.peers_are) (few round within) in
       let all : (m.rounds setup epoch - (round + 1)) * most + most ≤ m.rounds setup epoch * most = one_more (m.rounds setup epoch - (round + 1)) (m.rounds setup epoch) most (omega (arith, within)) in
@@ -286,15 +321,6 @@ module _ {S L M T R : Type 0} (m : Meanings S L M T R) (setup : S) (epoch : Epoc
       one_more a b n less = omega (arith, mul-le-mul_left n less)
 
 -- the weight of a run
-
--- what is left of a rank by its stage, before it so many sends and receives: after the end of the run its leave alone
-abbrev left_of : (over : Bool) → Stage → (steps : ℕ) → ℕ
-left_of over Running steps = 3 + steps
-left_of over (Arrived how filled) steps = 2
-left_of over Leaving steps = if over then 1 else 4 + steps
-left_of over Ended steps = 0
-left_of over Dead steps = 0
-left_of over Gone steps = 0
 
 left_most : (over : Bool) (s : Stage) (steps : ℕ) → left_of over s steps ≤ 4 + steps
 left_most over Running steps = omega arith
@@ -332,58 +358,35 @@ end_lowers Ended steps = omega arith
 end_lowers Dead steps = omega arith
 end_lowers Gone steps = omega arith
 
--- how many decisions may still come: a commit goes on in time, and a restore leaves a member behind
-unfoldable pub epochs_left : State → ℕ
-epochs_left state = if is_some state.outcome then 0 else (state.steps - state.epoch.time) + length state.epoch.members
-
--- more than is left of any rank
-unfoldable pub most_left : ℕ
-most_left = 4 + 2 * (2 ^ 32 * 32)
-
 module _ {S L M T R : Type 0} (m : Meanings S L M T R) (setup : S) where
-  -- what is left of a rank
-  unfoldable pub left : Run L T → (rank : ℕ) → ℕ
-  left run rank = left_of (is_some run.core.outcome) (stage run.core rank) (steps_left m setup run.core.epoch run.start rank (place run rank))
-
-  -- what is left of all ranks until the next decision and the leave that follows
-  unfoldable pub total : Run L T → ℕ
-  total run = sum_by (left run) (range_with_len 0 (m.ranks setup))
-
-  -- more than is left of all ranks
-  unfoldable pub bound : ℕ
-  bound = m.ranks setup * most_left + 1
-
-  unfoldable pub weight : Run L T → ℕ
-  weight run = bound * epochs_left run.core + total run
-
   -- one rank has less left, and no other more
-  moved_less : (before after : Run L T) (rank : ℕ) → rank < m.ranks setup → ((other : ℕ) → other ≢ rank → left after other ≡ left before other)
-      → left after rank < left before rank → total after < total before
+  moved_less : (before after : Run L T) (rank : ℕ) → rank < m.ranks setup → ((other : ℕ) → other ≢ rank → left_of_rank m setup after other ≡ left_of_rank m setup before other)
+      → left_of_rank m setup after rank < left_of_rank m setup before rank → total m setup after < total m setup before
   unfolding total
-  moved_less before after rank within others less = sums_less (left before) (left after) 0 (m.ranks setup) rank each less (omega arith) (omega (arith, within))
+  moved_less before after rank within others less = sums_less (left_of_rank m setup before) (left_of_rank m setup after) 0 (m.ranks setup) rank each less (omega arith) (omega (arith, within))
     where
-      each : (i : ℕ) → left after i ≤ left before i
+      each : (i : ℕ) → left_of_rank m setup after i ≤ left_of_rank m setup before i
       each i = elim (cases_eq i rank) [
-        | inl e ↦ let P : ℕ → Type 0 = λ r. left after r ≤ left before r in
-            let here : left after rank ≤ left before rank = omega (arith, less) in subst P (sym e) here
+        | inl e ↦ let P : ℕ → Type 0 = λ r. left_of_rank m setup after r ≤ left_of_rank m setup before r in
+            let here : left_of_rank m setup after rank ≤ left_of_rank m setup before rank = omega (arith, less) in subst P (sym e) here
         | inr differs ↦ omega (arith, others i differs)
       ]
 
   left_at : (run : Run L T) (rank : ℕ) (s : Stage) (to : Place) → stage run.core rank ≡ s → place run rank ≡ to
-      → left run rank ≡ left_of (is_some run.core.outcome) s (steps_left m setup run.core.epoch run.start rank to)
-  unfolding left
+      → left_of_rank m setup run rank ≡ left_of (is_some run.core.outcome) s (steps_left m setup run.core.epoch run.start rank to)
+  unfolding left_of_rank
   left_at run rank s to at stands =
       ap (λ t. left_of (is_some run.core.outcome) t (steps_left m setup run.core.epoch run.start rank (place run rank))) at
       ∙ ap (λ p. left_of (is_some run.core.outcome) s (steps_left m setup run.core.epoch run.start rank p)) stands
 
-  left_is : (run : Run L T) (rank : ℕ) → left run rank ≡ left_of (is_some run.core.outcome) (stage run.core rank) (steps_left m setup run.core.epoch run.start rank (place run rank))
+  left_is : (run : Run L T) (rank : ℕ) → left_of_rank m setup run rank ≡ left_of (is_some run.core.outcome) (stage run.core rank) (steps_left m setup run.core.epoch run.start rank (place run rank))
   left_is run rank = left_at run rank (stage run.core rank) (place run rank) refl refl
 
   -- a rank is at another stage, and stands where it stood
   staged_less : (run : Run L T) (parcels : List (ℕ × T)) (rank : ℕ) (to : Stage) → rank < length run.core.standings → rank < m.ranks setup
       → left_of (is_some run.core.outcome) to (steps_left m setup run.core.epoch run.start rank (place run rank))
       < left_of (is_some run.core.outcome) (stage run.core rank) (steps_left m setup run.core.epoch run.start rank (place run rank))
-      → total (record { core = with_stage run.core rank to; start = run.start; places = run.places; parcels = parcels }) < total run
+      → total m setup (record { core = with_stage run.core rank to; start = run.start; places = run.places; parcels = parcels }) < total m setup run
   staged_less run parcels rank to listed within less = moved_less run after rank within
       (λ other differs. left_at after other (stage run.core other) (place run other) (stage_other run.core rank other to differs) refl ∙ sym (left_is run other))
       (omega (arith, left_at after rank to (place run rank) (stage_same run.core rank to listed) refl, left_is run rank, less))
@@ -395,12 +398,12 @@ module _ {S L M T R : Type 0} (m : Meanings S L M T R) (setup : S) where
   stepped_less : (run : Run L T) (queues : List ℕ) (parcels : List (ℕ × T)) (rank : ℕ) (to : Place) → stage run.core rank ≡ Running
       → rank < length run.core.standings → rank < length run.places → rank < m.ranks setup
       → steps_left m setup run.core.epoch run.start rank to + 1 ≡ steps_left m setup run.core.epoch run.start rank (place run rank)
-      → total (record {
+      → total m setup (record {
         core = record (with_stage run.core rank (stage run.core rank)) { queues = queues };
         start = run.start;
         places = slice_set run.places rank to;
         parcels = parcels;
-      }) < total run
+      }) < total m setup run
   stepped_less run queues parcels rank to runs listed placed within less = moved_less run after rank within
       (λ other differs. left_at after other (stage run.core other) (place run other) (stage_other run.core rank other (stage run.core rank) differs)
       (get_or-set_other run.places rank other to Past differs) ∙ sym (left_is run other))
@@ -418,11 +421,6 @@ module _ {S L M T R : Type 0} (m : Meanings S L M T R) (setup : S) where
         places = slice_set run.places rank to;
         parcels = parcels;
       }
-
--- the number that there may be
-just : (o : Option ℕ) (n : ℕ) → is_just o n ≡ true → o ≡ Some n
-just (Some k) n same = ap Some (eqb-true k n same)
-just None n none = absurd (cc)
 
 epochs_same : (state : State) (event : Event) (filled : Bool) → epochs_left (happened state event filled) ≡ epochs_left state
 unfolding epochs_left
@@ -515,15 +513,15 @@ module _ {S L M T R : Type 0} (m : Meanings S L M T R) (good : S → Epoch → �
       omega (
         arith,
         ap (λ n. bound m setup * n) (ended_epochs run.core outcome),
-        sum_by-le-sum_by (left m setup after) (left m setup run) (range_with_len 0 (m.ranks setup)) each,
+        sum_by-le-sum_by (left_of_rank m setup after) (left_of_rank m setup run) (range_with_len 0 (m.ranks setup)) each,
       )
     where
       after : Run L T
       after = record run { core = ended run.core outcome }
 
-      each : (rank : ℕ) → left m setup after rank ≤ left m setup run rank
+      each : (rank : ℕ) → left_of_rank m setup after rank ≤ left_of_rank m setup run rank
       each rank =
-          let was : left m setup run rank ≡ left_of false (stage run.core rank) (steps_left m setup run.core.epoch run.start rank (place run rank)) =
+          let was : left_of_rank m setup run rank ≡ left_of false (stage run.core rank) (steps_left m setup run.core.epoch run.start rank (place run rank)) =
           left_is m setup run rank ∙ ap (λ o. left_of (is_some o) (stage run.core rank) (steps_left m setup run.core.epoch run.start rank (place run rank))) none in
           omega (
             arith,
@@ -591,7 +589,7 @@ module _ {S L M T R : Type 0} (m : Meanings S L M T R) (good : S → Epoch → �
   steps_few run lawful none rank =
       steps_most m setup run.core.epoch run.start 32 rank (place run rank) (few_peers run lawful none rank) (lawful.steady.placed rank)
 
-  left_bounded : (run : Run L T) → IsLawful m good setup goods stores run → run.core.outcome ≡ None → (rank : ℕ) → left m setup run rank ≤ most_left
+  left_bounded : (run : Run L T) → IsLawful m good setup goods stores run → run.core.outcome ≡ None → (rank : ℕ) → left_of_rank m setup run rank ≤ most_left
   unfolding most_left
   left_bounded run lawful none rank =
       omega (
@@ -605,7 +603,7 @@ module _ {S L M T R : Type 0} (m : Meanings S L M T R) (good : S → Epoch → �
   -- while a run goes on, what is left of all ranks is below the bound
   pub total_bounded : (run : Run L T) → IsLawful m good setup goods stores run → run.core.outcome ≡ None → total m setup run < bound m setup
   unfolding total bound
-  total_bounded run lawful none = omega (arith, sums_most (left m setup run) 0 (m.ranks setup) most_left (left_bounded run lawful none))
+  total_bounded run lawful none = omega (arith, sums_most (left_of_rank m setup run) 0 (m.ranks setup) most_left (left_bounded run lawful none))
 
   next_decides : (run : Run L T) (event : Event) → may_decide event ≡ true → is_ripe (run_happened m setup run event).core ≡ true
       → next_run m setup run event ≡ run_decided m setup (run_happened m setup run event) (decision (run_happened m setup run event).core)
@@ -658,10 +656,13 @@ module _ {S L M T R : Type 0} (m : Meanings S L M T R) (good : S → Epoch → �
   from_timed run [] timed = timed
   from_timed run (event ∷ events) timed = from_timed (next_run m setup run event) events (next_run_timed run event timed)
 
+  opening_run_timed : IsTimed (opening_run m setup).core
+  unfolding opening_run
+  opening_run_timed = opening_timed (m.ranks setup) (m.laid setup) (deaths m setup) (m.shift setup) (m.steps setup) (m.interval setup)
+
   pub after_timed : (journal : List Event) → IsTimed (run_after m setup journal).core
-  unfolding run_after opening_run
-  after_timed journal = from_timed (opening_run m setup) journal
-      (opening_timed (m.ranks setup) (m.laid setup) (deaths m setup) (m.shift setup) (m.steps setup) (m.interval setup))
+  unfolding run_after
+  after_timed journal = from_timed (opening_run m setup) journal opening_run_timed
 
   -- and so does every event that a journal may go on with
   pub journal_falls : (journal : List Event) (event : Event) → is_journal m setup journal ≡ true → is_legal_in m setup (run_after m setup journal) event ≡ true
@@ -670,3 +671,59 @@ module _ {S L M T R : Type 0} (m : Meanings S L M T R) (good : S → Epoch → �
       let P : Run L T → Type 0 = λ run. weight m setup run < weight m setup (run_after m setup journal) in
       subst P (sym (run_more m setup journal event))
       (weight_falls (run_after m setup journal) event (after_lawful m good setup goods stores limits journal told) (after_timed journal) legal)
+
+  -- so a journal is no longer than what is left at the opening
+  lightens : (run : Run L T) (journal : List Event) → IsLawful m good setup goods stores run → IsTimed run.core → is_legal_from m setup run journal ≡ true
+      → length journal + weight m setup (run_from m setup run journal) ≤ weight m setup run
+  lightens run [] lawful timed legal = omega arith
+  lightens run (event ∷ events) lawful timed legal =
+      let first : is_legal_in m setup run event ≡ true = first_of_two (is_legal_in m setup run event) _ legal in
+      omega (
+        arith,
+        weight_falls run event lawful timed first,
+        lightens (next_run m setup run event) events (next_lawful m good setup goods stores run event lawful first) (next_run_timed run event timed)
+            (second_of_two (is_legal_in m setup run event) _ legal),
+      )
+
+  pub journal_bounded : (journal : List Event) → is_journal m setup journal ≡ true
+      → length journal + weight m setup (run_after m setup journal) ≤ weight m setup (opening_run m setup)
+  unfolding run_after is_journal
+  journal_bounded journal legal =
+      lightens (opening_run m setup) journal (opening_lawful m good setup goods stores limits) opening_run_timed legal
+
+  restores_bounded : (run : Run L T) (journal : List Event) (before : ℕ) → IsLawful m good setup goods stores run → is_legal_from m setup run journal ≡ true
+      → restores_from m setup run journal before + length (run_from m setup run journal).core.epoch.members ≤ before + length run.core.epoch.members
+  unfolding is_legal_in brings_restore brings_decision
+  restores_bounded run [] before lawful legal = omega arith
+  restores_bounded run (event ∷ events) before lawful legal =
+      by_restore (brings_restore m setup run event)
+      (subst P (sym (core_next m good setup goods stores run event))
+      (members_next run.core event (place run (actor event)) (will_be_filled m setup run (actor event)) lawful.sound lawful.fair core_legal))
+      (λ count. restores_bounded (next_run m setup run event) events count (next_lawful m good setup goods stores run event lawful first) (second_of_two (is_legal_in m setup run event) _ legal))
+    where
+      first : is_legal_in m setup run event ≡ true
+      first = first_of_two (is_legal_in m setup run event) _ legal
+
+      core_legal : is_legal run.core event (place run (actor event)) ≡ true
+      core_legal = first_of_two (is_legal run.core event (place run (actor event))) _ first
+
+      P : State → Type 0
+      P state = (if brings_restore m setup run event then 1 else 0) + length state.epoch.members ≤ length run.core.epoch.members
+
+      by_restore : (b : Bool) → (if b then 1 else 0) + length (next_run m setup run event).core.epoch.members ≤ length run.core.epoch.members
+          → ((count : ℕ) → restores_from m setup (next_run m setup run event) events count + length (run_from m setup (next_run m setup run event) events).core.epoch.members
+          ≤ count + length (next_run m setup run event).core.epoch.members)
+          → restores_from m setup (next_run m setup run event) events (if b then before + 1 else before)
+          + length (run_from m setup (next_run m setup run event) events).core.epoch.members ≤ before + length run.core.epoch.members
+      by_restore true fewer rest = omega (arith, fewer, rest (before + 1))
+      by_restore false same rest = omega (arith, same, rest before)
+
+  opening_members : length (opening_run m setup).core.epoch.members ≡ m.ranks setup
+  unfolding opening_run opening
+  opening_members = length-range_with_len 0 (m.ranks setup)
+
+  -- with each restore a member less is left
+  pub restores_few : (journal : List Event) → is_journal m setup journal ≡ true → restores_in m setup journal + length (run_after m setup journal).core.epoch.members ≤ m.ranks setup
+  unfolding restores_in run_after is_journal
+  restores_few journal legal =
+      omega (arith, restores_bounded (opening_run m setup) journal 0 (opening_lawful m good setup goods stores limits) legal, opening_members)

@@ -1,5 +1,5 @@
 -- What a world keeps from call to call.
-use Rattle.std.proofs.Common.{◌≡◌, ℕ, ◌+◌, ◌*◌, ◌≤◌, min, max, Bool, true, false, ◌&&◌, List, [], ◌∷◌, ◌++◌, length, get_or, arith, sym, subst, ◌∙◌, ap}
+use Rattle.std.proofs.Common.{◌≡◌, ℕ, ◌+◌, ◌*◌, ◌≤◌, max, Bool, true, false, ◌&&◌, List, [], ◌∷◌, ◌++◌, length, get_or, arith, sym, subst, ◌∙◌, ap}
 use Rattle.std.specs.Prelude.{Option, Some, None, if◌then◌else◌, Result, Ok, Err, is_err, OnOk}
 use Rattle.std.proofs.lemmas.Bool.{eq-eqb}
 use Rattle.std.proofs.lemmas.Option.{slice_get-get_or}
@@ -60,22 +60,6 @@ noted_after before now later event is same = is ∙ ap (λ events. events ++ eve
 
 pub room_left : (old now needed less : ℕ) → now + 1 ≡ old → needed ≤ old → less + 1 ≤ needed → less ≤ now
 room_left old now needed less is had lower = omega (arith, is, had, lower)
-
-module _ {S L M T R : Type 0} (m : Meanings S L M T R) (setup : S) where
-  -- more room
-  pub world_roomier : (core : State) (waiting : Waiting M) (noted later : Noted) (parcels : List (ℕ × T)) (restores : ℕ)
-      → IsWorld m setup core waiting noted parcels restores → later.events ≡ noted.events → noted.room ≤ later.room
-      → IsWorld m setup core waiting later parcels restores
-  world_roomier core waiting noted later parcels restores world same more =
-      let P : List Event → Type 0 = λ events. IsWorld m setup core waiting (record { events = events; room = later.room }) parcels restores in
-      subst P (sym same) (record {
-        legal = world.legal;
-        core_is = world.core_is;
-        queues = world.queues;
-        parcels_are = world.parcels_are;
-        room = omega (arith, world.room, more);
-        restores_are = world.restores_are;
-      })
 
 module _ {S L M T R : Type 0} (m : Meanings S L M T R) (good : S → Epoch → ℕ → List L → Type 0) (setup : S)
     (limits : KeepsLimits m setup) (goods : KeepsGood m good setup) (stores : KeepsStored m good setup) (peers : KeepsPeers m good setup) where
@@ -149,9 +133,6 @@ module _ {S L M T R : Type 0} (m : Meanings S L M T R) (good : S → Epoch → �
       later_lawful : IsLawful m good setup goods stores (next_run m setup (run_after m setup noted.events) event)
       later_lawful = next_lawful m good setup goods stores run event its_lawful legal
 
-      pub later_ranks : core_later.ranks ≡ m.ranks setup
-      later_ranks = ap (λ state. state.ranks) core_is_next ∙ later_lawful.steady.ranks
-
       pub need_within : room_needed core_later ≤ 3 * m.ranks setup
       need_within =
           let size : length core_later.standings ≡ m.ranks setup =
@@ -161,7 +142,7 @@ module _ {S L M T R : Type 0} (m : Meanings S L M T R) (good : S → Epoch → �
       pub world_next : AreQueuesOf m setup (next_run m setup (run_after m setup noted.events) event) waiting_later
           → parcels_later ≡ (next_run m setup (run_after m setup noted.events) event).parcels
           → room_needed core_later ≤ later.room
-          → restores_later ≡ (if brings_restore m setup (run_after m setup noted.events) event then min (restores + 1) 4294967295 else restores)
+          → restores_later ≡ (if brings_restore m setup (run_after m setup noted.events) event then restores + 1 else restores)
           → IsWorld m setup core_later waiting_later later parcels_later restores_later
       world_next queues parcels_are room restores_are =
           let P : List Event → Type 0 = λ events. IsWorld m setup core_later waiting_later (record { events = events; room = later.room }) parcels_later restores_later in
@@ -173,6 +154,6 @@ module _ {S L M T R : Type 0} (m : Meanings S L M T R) (good : S → Epoch → �
             parcels_are = parcels_are ∙ ap (λ r. r.parcels) (sym is);
             room = room;
             restores_are = restores_are
-                ∙ ap (λ n. if brings_restore m setup run event then min (n + 1) 4294967295 else n) world.restores_are
+                ∙ ap (λ n. if brings_restore m setup run event then n + 1 else n) world.restores_are
                 ∙ sym (restores_more m setup noted.events event);
           })

@@ -6,4 +6,5 @@ pub mod Messages
 pub mod Worlds
 pub mod Results
 pub mod Ends
+pub mod Weights
 pub mod Settled

@@ -36,10 +36,6 @@ abbrev pub round_of : Place → ℕ
 round_of (Rounds round sent received peers) = round
 round_of Past = 0
 
--- a run in which a rank stands elsewhere
-abbrev pub with_place : {L T : Type 0} → Run L T → ℕ → Place → Run L T
-with_place run rank to = record run { places = slice_set run.places rank to }
-
 -- the scheduled death of a rank, if there is one
 abbrev pub death_with : (rank : ℕ) → Option ℕ → List (ℕ × ℕ)
 death_with rank (Some events) = (rank, events) ∷ []

@@ -1,5 +1,5 @@
 -- What an arrival or a death leaves beside the core, told from the state after it.
-use Rattle.std.specs.Prelude.{ℕ, ◌+◌, Bool, ◌&&◌, ◌||◌, not, if◌then◌else◌, List, [], ◌∷◌, Option, Some, None, is_some, min}
+use Rattle.std.specs.Prelude.{ℕ, ◌+◌, Bool, ◌&&◌, ◌||◌, not, if◌then◌else◌, List, [], ◌∷◌, Option, Some, None, is_some}
 use Rattle.bf_core.specs.Stages.{is_arrived, is_dead}
 use Rattle.bf_core.specs.States.{State, stage}
 use Rattle.bf_world.specs.declared.answers.Got.{Got}
@@ -22,9 +22,9 @@ waiting_settled state rank waiting = if is_decided state rank then no_messages w
 abbrev pub parcels_settled : {T : Type 0} → State → (rank : ℕ) → List (ℕ × T) → List (ℕ × T)
 parcels_settled state rank parcels = if is_decided state rank && is_restored state then [] else parcels
 
--- a restore counts; the count stands still at its type's end
+-- a restore counts
 abbrev pub restores_settled : State → (rank before : ℕ) → ℕ
-restores_settled state rank before = if is_decided state rank && is_restored state then min (before + 1) 4294967295 else before
+restores_settled state rank before = if is_decided state rank && is_restored state then before + 1 else before
 
 -- the parcel that a rank gives, if there is one
 abbrev pub given : {T : Type 0} → (rank : ℕ) → Option T → List (ℕ × T)

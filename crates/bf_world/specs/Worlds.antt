@@ -1,5 +1,5 @@
 -- What contracts see of a world, what its type keeps, and what its calls ask and answer.
-use Rattle.std.specs.Prelude.{◌≡◌, ℕ, ◌+◌, ◌≤◌, Bool, true, false, ◌&&◌, if◌then◌else◌, IsTrue, List, [], ◌∷◌, ◌++◌, sum_by, drop, Option, Some, None, is_some, min}
+use Rattle.std.specs.Prelude.{◌≡◌, ℕ, ◌+◌, ◌≤◌, Bool, true, false, ◌&&◌, if◌then◌else◌, IsTrue, List, [], ◌∷◌, ◌++◌, sum_by, drop, Option, Some, None, is_some}
 use Rattle.bf_program.specs.Meanings.{Meanings}
 use Rattle.bf_core.specs.declared.decision.Decision.{Decision}
 use Rattle.bf_core.specs.declared.decision.Decision.TheVariants as decisions
@@ -76,11 +76,11 @@ module _ {S L M T R : Type 0} (m : Meanings S L M T R) (setup : S) where
   unfoldable pub brings_restore : Run L T → Event → Bool
   brings_restore run event = is_restore (brings_decision run event) (decision (happened run.core event (will_be_filled m setup run (actor event))))
 
-  -- how many restores events bring; a count stands still at the end of its type
+  -- how many restores events bring, beside those before
   abbrev pub restores_from : Run L T → List Event → (before : ℕ) → ℕ
   restores_from run [] before = before
   restores_from run (event ∷ events) before =
-      restores_from (next_run m setup run event) events (if brings_restore run event then min (before + 1) 4294967295 else before)
+      restores_from (next_run m setup run event) events (if brings_restore run event then before + 1 else before)
 
   -- how many restores a journal has
   unfoldable pub restores_in : List Event → ℕ

@@ -1,4 +1,4 @@
-ghost use Rattle.std.specs.Prelude.{◌≡◌, ℕ, ◌<◌, ◌≤◌, ◌+◌, ◌*◌, not, ◌==◌, [], ◌∷◌, ◌++◌, length, filter, vec_len, vec_capacity, IfOk, if◌then◌else◌};
+ghost use Rattle.std.specs.Prelude.{◌≡◌, ℕ, ◌<◌, ◌≤◌, ◌+◌, ◌*◌, not, ◌==◌, [], ◌∷◌, ◌++◌, ◌-◌, ◌^◌, length, filter, IfOk, IfErr, OnOk, OnErr, if◌then◌else◌};
 ghost use Rattle.bf_core.specs.Stages.{is_arrived};
 ghost use Rattle.bf_core.specs.States.{stage, standing, queue};
 ghost use Rattle.bf_core.specs.Legal.{actor, IsLegalSomewhere};
@@ -9,7 +9,7 @@ ghost use Rattle.bf_world.specs.Settled.{is_decided, is_restored, waiting_settle
 use crate::journal::Journal;
 use crate::queues::Queues;
 use bf_core::{CoreState, Event, Stage};
-use bf_program::{Memory, RankProgram};
+use bf_program::{Kept, Memory, RankProgram};
 use std::alloc::Global;
 
 /// The scheduled deaths: ranks, each with the number of events after which it dies.
@@ -78,7 +78,8 @@ pub(crate) fn settle<M: Drop, T: Drop>(
     parcels: &mut Vec<(u32, T)>,
     restores: &mut u32,
 )
-    requires { rank < core.now.ranks }
+    requires rank { rank < core.now.ranks }
+    requires few { restores.old < 2 ^ 32 - 1 }
     ensures queues { queues.new ≡ waiting_settled core.now rank queues.old }
     ensures parcels { parcels.new.items ≡ parcels_settled core.now rank parcels.old.items }
     ensures restores { restores.new ≡ restores_settled core.now rank restores.old }
@@ -87,7 +88,7 @@ pub(crate) fn settle<M: Drop, T: Drop>(
         queues.clear();
         if is_restored(core) {
             parcels.clear();
-            *restores = restores.saturating_add(1);
+            *restores += 1;
         }
     }
 }
@@ -109,12 +110,21 @@ pub(crate) fn forget<T: Drop>(core: &CoreState, parcels: &mut Vec<(u32, T)>, ran
     }
 }
 
-/// Adds what a rank gives, if anything, for which there is memory.
-pub(crate) fn give<T: Drop>(parcels: &mut Vec<(u32, T)>, rank: u32, parcel: Option<T>)
-    requires { vec_len parcels.old < vec_capacity parcels.old }
-    ensures { parcels.new.items ≡ parcels.old.items ++ given rank parcel }
+/// Adds what a rank gives, if anything. Without memory it comes back.
+pub(crate) fn give<T: Drop>(
+    parcels: &mut Vec<(u32, T)>,
+    rank: u32,
+    parcel: Option<T>,
+) -> Result<(), Kept<Option<T>>>
+    ensures ok { OnOk result (parcels.new.items ≡ parcels.old.items ++ given rank parcel) }
+    ensures err { OnErr result (parcels.new.items ≡ parcels.old.items) }
+    ensures kept { IfErr result (λ kept. kept.value ≡ parcel) }
 {
     if let Some(part) = parcel {
+        if parcels.reserve(1).is_err() {
+            return Err(Kept { value: Some(part) });
+        }
         parcels.push_reserved((rank, part));
     }
+    Ok(())
 }

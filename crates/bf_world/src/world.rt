@@ -1,7 +1,7 @@
 ghost use Rattle.std.specs.Prelude.{◌≡◌, ◌<◌, ◌||◌, true, false, IsTrue, [], ◌∷◌, ◌++◌, length, drop, IsOk, IfOk, IfErr, OnOk, OnErr};
 ghost use Rattle.bf_program.specs.Epochs.{first_epoch};
 ghost use Rattle.bf_core.specs.Stages.{is_arrived, is_leaving};
-ghost use Rattle.bf_core.specs.States.{stage, is_due, is_active, is_finished};
+ghost use Rattle.bf_core.specs.States.{stage, is_due, is_active, has_dead_member, is_finished};
 ghost use Rattle.bf_world.specs.Queues.{messages, with_messages};
 ghost use Rattle.bf_world.specs.Runs.{run_after, is_legal_in};
 ghost use Rattle.bf_world.specs.Settled.{IsMessage};
@@ -134,7 +134,7 @@ impl<P: RankProgram> World<P> {
         self.journal.events()
     }
 
-    /// How many restores there were. The count stands still at its type's end.
+    /// How many restores there were: less than there are ranks, since each leaves a member behind.
     pub fn restores(&self) -> u32
         ensures { result ≡ restores_in P.meanings self.now.setup self.now.journal }
     {
@@ -230,6 +230,7 @@ impl<P: RankProgram> World<P> {
         ensures setup { self.new.setup ≡ self.old.setup }
         ensures ok { IfOk result (λ got. HasGot P.meanings self.old.setup self.old self.new rank peer got) }
         ensures none { IfOk result (λ got. IsMessage got → ⊥) }
+        ensures waits { has_dead_member (core_after P.meanings self.old.setup self.old.journal) ≡ false → IsOk result }
         ensures err { OnErr result (self.new ≡ self.old) }
     {
         if self.core.has_dead_member() {
@@ -242,12 +243,14 @@ impl<P: RankProgram> World<P> {
         }
     }
 
-    /// A rank takes the front of the queue from a peer. Where it is empty, the rank arrives if a member is dead.
+    /// A rank takes the front of the queue from a peer. Where it is empty, the rank arrives if a member is dead; where every
+    /// member lives, that takes no memory.
     pub fn recv(&mut self, rank: u32, peer: u32) -> Result<Got<P::Msg>, Memory>
         requires { ReceivesNext P.meanings self.old.setup self.old.journal rank peer }
         ensures setup { self.new.setup ≡ self.old.setup }
         ensures ok { IfOk result (λ got. HasGot P.meanings self.old.setup self.old self.new rank peer got) }
         ensures waiting { IfOk result (λ got. IsMessage got → self.new.waiting ≡ with_messages self.old.waiting peer rank (drop 1 (messages self.old.waiting peer rank))) }
+        ensures waits { messages self.old.waiting peer rank ≡ [] → has_dead_member (core_after P.meanings self.old.setup self.old.journal) ≡ false → IsOk result }
         ensures err { OnErr result (self.new ≡ self.old) }
     {
         if self.queues.is_empty(peer, rank) {
@@ -292,10 +295,10 @@ impl<P: RankProgram> World<P> {
         ensures kept { IfErr result (λ kept. kept.value ≡ parcel) }
     {
         let more = room_for(&self.queues);
-        if self.journal.reserve(more).is_err() || self.parcels.reserve(1).is_err() {
+        if self.journal.reserve(more).is_err() {
             return Err(Kept { value: parcel });
         }
-        give(&mut self.parcels, rank, parcel);
+        give(&mut self.parcels, rank, parcel)?;
         let event = Event::Arrive {
             rank,
             how: How::Done,

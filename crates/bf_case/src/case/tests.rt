@@ -1,7 +1,7 @@
 use super::{Case, Fill};
 use crate::filling::filled_root;
-use bf_items::Items;
 use bf_id::Shape;
+use bf_items::Items;
 use std::alloc::{AllocError, Global};
 use std::test::Fail;
 

@@ -62,8 +62,19 @@ fn a_case_is_read(rt: HostRuntime) -> Result<(), Fail> {
     Ok(())
 }
 
+#[test]
+fn an_order_is_read(rt: HostRuntime) -> Result<(), Fail> {
+    let text = text_with(rt.alloc(), 14, "order 0 0 0\nend\n")?;
+    let Reading::Case(case) = read_case(rt.alloc(), &text)? else {
+        return Err(Fail::from("the text is a case"));
+    };
+    assert_eq!(rt; case.order.as_slice(), [0, 0, 0].as_slice());
+    assert_eq!(rt; case.fills.as_slice().len(), 1);
+    Ok(())
+}
+
 /// The index of a line, and a text for which the whole is refused.
-const OTHERS: [(usize, &str); 13] = [
+const OTHERS: [(usize, &str); 20] = [
     (0, "forest 01\n"),
     (2, "side 2\r\n"),
     (2, "side 03\n"),
@@ -74,7 +85,14 @@ const OTHERS: [(usize, &str); 13] = [
     (13, "fill 0 0 0 2 0 0 1\n"),
     (13, "fill 0 0 0 1 1 1\n"),
     (13, "die 0 1\n"),
-    (13, "order 0\n"),
+    (14, "order 1\nend\n"),
+    (14, "order\nend\n"),
+    (14, "order 00\nend\n"),
+    (14, "order 0 \nend\n"),
+    (14, "order 0\norder 0\nend\n"),
+    (14, "order 0\n"),
+    (14, "order 0\nfill 0 0 0 1 1 1 8\nend\n"),
+    (13, "order 0\nfill 0 0 0 1 1 1 8\n"),
     (14, "end"),
     (14, "end\n\n"),
 ];

@@ -1,6 +1,6 @@
 use Rattle.std.proofs.Common.{◌≡◌}
 use Rattle.bf_world.specs.Runs.{run_after}
-use Rattle.bf_world.proofs.WeightLemmas.{weight}
+use Rattle.bf_world.specs.Weights.{weight}
 use Rattle.bf_drive.specs.Drives.{AreAt, IsDriven}
 use Rattle.bf_drive.proofs.driver.drive_all.Given as goal
 

@@ -5,7 +5,7 @@ use Rattle.bf_core.specs.States.{is_active}
 use Rattle.bf_world.specs.declared.answers.Arrival.TheVariants as arrivals
 use Rattle.bf_world.specs.Worlds.{ArrivesAs, core_after}
 use Rattle.bf_world.proofs.WorldLemmas.{legal_somewhere, events_counted, queues_counted, where_ok, room_after, noted_after}
-use Rattle.bf_world.proofs.CallLemmas.{of_fields, rank_later, dones_legal, active_within, world_done}
+use Rattle.bf_world.proofs.CallLemmas.{countable, of_fields, rank_later, dones_legal, active_within, world_done}
 use Rattle.bf_world.proofs.world.World.arrive_done.Goals as goal
 
 pub step-requires-clause-legal : goal.step-requires-clause-legal
@@ -26,11 +26,16 @@ step-requires-clause-queues g c = λ from to.
     let laws = g.met.P.RankProgram.lawful c.self.inside.setup in
     queues_counted _ _ _ laws.limits laws.goods laws.stores laws.peers _ _ _ _ _ c.self.invariant _ from to c.reserve.ensures.events
 
-pub settle-requires : goal.settle-requires
-settle-requires g c =
+pub settle-requires-clause-rank : goal.settle-requires-clause-rank
+settle-requires-clause-rank g c =
     let laws = g.met.P.RankProgram.lawful c.self.inside.setup in
     let active = of_fields (λ s j w p. is_active (core_after g.P.RankProgram.meanings s j) c.args.rank ≡ true) _ _ _ _ _ c.self.view_is c.requires.active in
     rank_later c.self.inside.core c.step.new.core (Arrive c.args.rank Done) c.args.filled c.args.rank c.step.ensures.core (active_within _ _ _ laws.limits laws.goods laws.stores laws.peers _ _ _ _ _ c.self.invariant c.args.rank active)
+
+pub settle-requires-clause-few : goal.settle-requires-clause-few
+settle-requires-clause-few g c =
+    let laws = g.met.P.RankProgram.lawful c.self.inside.setup in
+    countable _ _ _ laws.limits laws.goods laws.stores laws.peers _ _ _ _ _ c.self.invariant
 
 pub invariant_of-self-2 : goal.invariant_of-self-2
 invariant_of-self-2 g c =

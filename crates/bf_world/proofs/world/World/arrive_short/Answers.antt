@@ -4,7 +4,7 @@ use Rattle.bf_core.specs.declared.event.How.TheVariants.{Memory}
 use Rattle.bf_core.specs.States.{is_active}
 use Rattle.bf_world.specs.Worlds.{core_after}
 use Rattle.bf_world.proofs.WorldLemmas.{legal_somewhere, events_counted, queues_counted}
-use Rattle.bf_world.proofs.CallLemmas.{of_fields, rank_later, shorts_legal, active_within, short_room, world_short}
+use Rattle.bf_world.proofs.CallLemmas.{countable, of_fields, rank_later, shorts_legal, active_within, short_room, world_short}
 use Rattle.bf_world.proofs.world.World.arrive_short.Goals as goal
 
 pub step-requires-clause-legal : goal.step-requires-clause-legal
@@ -30,11 +30,16 @@ step-requires-clause-room g c =
     let active = of_fields (λ s j w p. is_active (core_after g.P.RankProgram.meanings s j) c.args.rank ≡ true) _ _ _ _ _ c.self.view_is c.requires in
     short_room _ _ _ laws.limits laws.goods laws.stores laws.peers _ _ _ _ _ c.self.invariant _ active
 
-pub settle-requires : goal.settle-requires
-settle-requires g c =
+pub settle-requires-clause-rank : goal.settle-requires-clause-rank
+settle-requires-clause-rank g c =
     let laws = g.met.P.RankProgram.lawful c.self.inside.setup in
     let active = of_fields (λ s j w p. is_active (core_after g.P.RankProgram.meanings s j) c.args.rank ≡ true) _ _ _ _ _ c.self.view_is c.requires in
     rank_later c.self.inside.core c.step.new.core (Arrive c.args.rank Memory) false c.args.rank c.step.ensures.core (active_within _ _ _ laws.limits laws.goods laws.stores laws.peers _ _ _ _ _ c.self.invariant c.args.rank active)
+
+pub settle-requires-clause-few : goal.settle-requires-clause-few
+settle-requires-clause-few g c =
+    let laws = g.met.P.RankProgram.lawful c.self.inside.setup in
+    countable _ _ _ laws.limits laws.goods laws.stores laws.peers _ _ _ _ _ c.self.invariant
 
 pub invariant_of-self : goal.invariant_of-self
 invariant_of-self g c =

@@ -1,0 +1,48 @@
+ghost use Rattle.std.specs.Prelude.{◌≡◌, ◌++◌, length, map, IfOk, OnOk, IsPermutation};
+ghost use Rattle.std.specs.List.Sorted.{IsNonDecreasingBy};
+ghost use Rattle.bf_block.specs.Block.{BlockValue};
+ghost use Rattle.bf_driven.specs.Parcels.{blocks_of};
+
+use bf_block::{Block, Memory};
+use bf_items::Items;
+use std::alloc::Global;
+
+// Adds the blocks of a part.
+fn add_part<'a>(blocks: &mut Vec<&'a Block>, part: &'a [Block]) -> Result<(), Memory>
+    ensures { OnOk result (map (λ block. block.now) blocks.new.items ≡ map (λ block. block.now) blocks.old.items ++ part.now) }
+{
+    for block in part {
+        blocks.push(block)?;
+    }
+    Ok(())
+}
+
+// The blocks of all parcels, as they lie there.
+fn blocks_of(alloc: Global, parcels: &[(u32, Items<Block>)]) -> Result<Vec<&Block>, Memory>
+    ensures { IfOk result (λ blocks. map (λ block. block.now) blocks.items ≡ blocks_of parcels.now) }
+{
+    let mut blocks = Vec::new(alloc);
+    for (_rank, part) in parcels {
+        add_part(&mut blocks, part.as_slice())?;
+    }
+    Ok(blocks)
+}
+
+// Puts blocks in rising order of their roots.
+fn sort(blocks: &mut [&Block])
+    ensures same { IsPermutation (map (λ block. block.now) blocks.old) (map (λ block. block.now) blocks.new) }
+    ensures len { length blocks.new ≡ length blocks.old }
+    ensures rising { IsNonDecreasingBy (λ (block : BlockValue). block.id.root) (map (λ block. block.now) blocks.new) }
+{
+    blocks.sort_unstable_by_key(|block| block.id().root());
+}
+
+/// The blocks of all parcels, by rising root. No cell is copied.
+pub fn leaves(alloc: Global, parcels: &[(u32, Items<Block>)]) -> Result<Vec<&Block>, Memory>
+    ensures same { IfOk result (λ blocks. IsPermutation (blocks_of parcels.now) (map (λ block. block.now) blocks.items)) }
+    ensures rising { IfOk result (λ blocks. IsNonDecreasingBy (λ (block : BlockValue). block.id.root) (map (λ block. block.now) blocks.items)) }
+{
+    let mut blocks = blocks_of(alloc, parcels)?;
+    sort(blocks.as_mut_slice());
+    Ok(blocks)
+}
