@@ -6,10 +6,10 @@ ghost use Rattle.bf_block.specs.Block.{after_regrid};
 ghost use Rattle.bf_block.specs.Setup.{case_of};
 
 use crate::laws::{a_regrid_of_one_level_keeps_each_block, the_walls_around_a_root_hold_samples};
-use crate::{Block, Memory, Opening, Setup};
+use crate::{Block, Memory, Opening, Point, Setup};
 use bf_case::{Case, Fill, RootCells, surround};
 use bf_cells::{Cells, Shell};
-use bf_id::Shape;
+use bf_id::{Id, Shape};
 use bf_items::Items;
 use std::alloc::Global;
 use std::process::Abort;
@@ -83,4 +83,72 @@ fn step_alone(alloc: Global, setup: &Setup, block: Block) -> Result<Block, Memor
         Ok(block) => Ok(block),
         Err(_) => Err(Memory),
     }
+}
+
+fn opened(rt: &impl Abort, alloc: Global) -> Result<(Opening, Setup), Memory>
+    ensures { IfOk result (λ pair. pair.0 ≡ case_of pair.1) }
+{
+    let case = one_drop(alloc)?;
+    assert!(rt; case.valid());
+    assert!(rt; case.levels == 0);
+    Opening::of(alloc, case)
+}
+
+// The lone root at the beginning, kept by the regrid of time 0.
+fn kept_first(alloc: Global, opening: &Opening, setup: &Setup) -> Result<Block, Memory>
+    requires { opening.now ≡ case_of setup.now }
+    ensures case { IfOk result (λ block. block.case ≡ case_of setup.now) }
+    ensures point { IfOk result (λ block. block.point ≡ after_regrid 0) }
+    ensures id { IfOk result (λ block. block.id ≡ root_id 0) }
+{
+    let _some = setup.root_count();
+    let block = Block::initial(alloc, opening, 0)?;
+    let _cells = block.cells();
+    a_regrid_of_one_level_keeps_each_block();
+    Ok(block.kept())
+}
+
+fn expect_cells(rt: &impl Abort, block: &Block, values: &[u32]) {
+    assert_eq!(rt; block.cells().values(), values);
+}
+
+fn expect_first_root(rt: &impl Abort, block: &Block, time: u32, regridded: bool) {
+    assert_eq!(rt; block.point(), Point { time, regridded });
+    assert_eq!(rt; block.id(), Id::root_of(0));
+}
+
+#[test]
+fn a_drop_spreads(rt: HostRuntime) -> Result<(), Fail> {
+    let (opening, setup) = opened(&rt, rt.alloc())?;
+    let block = kept_first(rt.alloc(), &opening, &setup)?;
+    expect_first_root(&rt, &block, 0, true);
+    expect_cells(&rt, &block, [8, 0, 0, 0, 0, 0, 0, 0].as_slice());
+    assert!(rt; setup.root_count() == 1);
+    assert!(rt; setup.steps() == 3);
+    let next = step_alone(rt.alloc(), &setup, block)?.copy()?;
+    expect_first_root(&rt, &next, 1, false);
+    expect_cells(&rt, &next, [5, 1, 1, 0, 1, 0, 0, 0].as_slice());
+    Ok(())
+}
+
+#[test]
+fn a_setup_shows_its_case(rt: HostRuntime) -> Result<(), Fail> {
+    let (_, first) = opened(&rt, rt.alloc())?;
+    let setup = first.share()?;
+    let numbers = [
+        setup.side(),
+        setup.levels(),
+        setup.ranks(),
+        setup.snapshot(),
+        setup.regrid(),
+        setup.refine(),
+        setup.coarsen(),
+        setup.flow(),
+        setup.turns(),
+        setup.shift(),
+    ];
+    assert_eq!(rt; numbers, [2, 0, 2, 4, 5, 7, 6, 8, 1, 9]);
+    assert_eq!(rt; setup.dies(), [(1, 17)].as_slice());
+    assert_eq!(rt; setup.order(), [1, 0].as_slice());
+    Ok(())
 }

@@ -19,3 +19,6 @@ pub use opening::load;
 pub use program::Forest;
 pub use stage::Stage;
 pub use start::laid;
+
+#[cfg(test)]
+mod tests;
