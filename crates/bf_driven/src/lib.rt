@@ -4,6 +4,8 @@
 mod driven;
 pub mod laws;
 mod parcels;
+#[cfg(test)]
+mod tests;
 
 pub use driven::run;
 pub use parcels::leaves;
