@@ -71,7 +71,7 @@ initial_is : (c : Case) (root : ℕ) → IsValid c → root < root_count c.roots
 unfolding model
 initial_is c root valid below = record { of_case = refl; at = refl; models = record { leaf = cells_at-initial c root valid below } }
 
-first_are : (c : Case) (rank : ℕ) → IsValid c → All (IsBlockAt c 0) (first_blocks c rank)
+pub first_are : (c : Case) (rank : ℕ) → IsValid c → All (IsBlockAt c 0) (first_blocks c rank)
 unfolding first_blocks
 first_are c rank valid =
     All-map (IsBlockAt c 0) (initial_block c) (filter (λ root. first_rank_of c root == rank) (range_with_len 0 (root_count c.roots)))

@@ -93,3 +93,94 @@ fn step_both(
     step(alloc, setup, first)?;
     step(alloc, setup, second)
 }
+
+// A message of the snapshot's round goes from a rank to another.
+fn pass_part(
+    alloc: Global,
+    members: Members,
+    from: &ForestLocal,
+    to: &mut ForestLocal,
+) -> Result<(), Memory> {
+    let msg = told(alloc, Stage::Snapshot, members, 0, from, to.rank)?;
+    hear(to, msg)
+}
+
+// Two ranks make a snapshot at the end of the first epoch, and keep it.
+#[tactic(none)]
+fn commit_both(
+    alloc: Global,
+    setup: &Setup,
+    first: &mut ForestLocal,
+    second: &mut ForestLocal,
+) -> Result<(), Memory> {
+    let epoch = Epoch::first(2, 2, 1);
+    pass_part(alloc, epoch.members, first, second)?;
+    pass_part(alloc, epoch.members, second, first)?;
+    snap(alloc, setup, first, epoch)?;
+    snap(alloc, setup, second, epoch)?;
+    Forest::keep(first);
+    Forest::keep(second);
+    Ok(())
+}
+
+fn expect_cells(rt: &impl Abort, blocks: &[Block], place: usize, values: &[u32]) {
+    assert!(rt; place < blocks.len());
+    assert_eq!(rt; blocks[place].cells().values(), values);
+}
+
+fn expect_filled(rt: &impl Abort, local: &ForestLocal, filled: bool) {
+    assert_eq!(rt; Forest::filled(local), filled);
+}
+
+fn expect_measure(rt: &impl Abort, msg: &ForestMessage, blocks: u32, sum: u64) {
+    assert_eq!(rt; Forest::measure(msg), Measure { blocks, sum });
+}
+
+// The second rank is dead, and the first goes on with both roots.
+#[tactic(none)]
+fn expect_both_regained(
+    rt: &impl Abort,
+    alloc: Global,
+    first: &mut ForestLocal,
+) -> Result<(), Memory> {
+    go_back(alloc, first, 0, Members::all(1))?;
+    let all = told(alloc, Stage::Step, Members::all(1), 0, first, 0)?;
+    expect_measure(rt, &all, 2, 640);
+    let none = told(alloc, Stage::Snapshot, Members::all(2), 0, first, 0)?;
+    expect_measure(rt, &none, 0, 0);
+    let blocks = Forest::parcel(first);
+    expect_cells(rt, blocks.as_slice(), 0, [80, 70, 80, 70, 80, 70, 80, 70].as_slice());
+    expect_cells(rt, blocks.as_slice(), 1, [10, 0, 10, 0, 10, 0, 10, 0].as_slice());
+    Ok(())
+}
+
+#[test]
+#[tactic(none)]
+fn cells_spread_between_ranks(rt: HostRuntime) -> Result<(), Fail> {
+    let alloc = rt.alloc();
+    let (opening, setup) = opened(&rt, alloc)?;
+    assert!(rt; setup.ranks() == 2);
+    assert!(rt; setup.steps() == 2);
+    let locals = load(alloc, opening, &setup)?;
+    let (mut first, mut second) = both(&setup, locals)?;
+    step_both(alloc, &setup, &mut first, &mut second)?;
+    expect_filled(&rt, &first, false);
+    commit_both(alloc, &setup, &mut first, &mut second)?;
+    expect_both_regained(&rt, alloc, &mut first)?;
+    Ok(())
+}
+
+#[test]
+fn a_setup_tells_what_the_ranks_do(rt: HostRuntime) -> Result<(), Fail> {
+    let (_, setup) = opened(&rt, rt.alloc())?;
+    let epoch = Epoch::first(2, 2, 1);
+    assert_eq!(rt; Forest::ranks(&setup), 2);
+    assert_eq!(rt; Forest::steps(&setup), 2);
+    assert_eq!(rt; Forest::shift(&setup), 0);
+    assert_eq!(rt; Forest::snapshot(&setup), 1);
+    assert_eq!(rt; Forest::target(&setup, 1), 2);
+    assert_eq!(rt; Forest::rounds(&setup, epoch), 2);
+    assert_eq!(rt; Forest::dies(&setup, 0), None);
+    assert_eq!(rt; Forest::dies(&setup, 1), Some(17));
+    Ok(())
+}
