@@ -5,6 +5,7 @@
 mod blocks;
 mod calls;
 mod known;
+pub mod laws;
 mod local;
 mod message;
 mod opening;

@@ -1,0 +1,60 @@
+//! What holds of all ranks together, each law the contract of a call that does nothing.
+ghost use Rattle.std.specs.Prelude.{◌≡◌, ℕ, ◌+◌, ◌<◌, ◌≤◌, Bool, List, None, filter};
+ghost use Rattle.std.specs.List.{flat_map};
+ghost use Rattle.bf_buddy.specs.Losses.{first_lost_of};
+ghost use Rattle.bf_program.specs.declared.epoch.Epoch.{Epoch};
+ghost use Rattle.bf_program.specs.Epochs.{first_epoch};
+ghost use Rattle.bf_program.specs.Lockstep.{lockstep, next_locals};
+ghost use Rattle.bf_program.specs.Restores.{restored_locals};
+ghost use Rattle.bf_case.specs.Model.{model};
+ghost use Rattle.bf_block.specs.declared.setup.Setup.{Setup};
+ghost use Rattle.bf_block.specs.Setup.{case_of};
+ghost use Rattle.bf_forest.specs.declared.local.ForestLocal.{ForestLocal};
+ghost use Rattle.bf_forest.specs.Goods.{IsGood};
+ghost use Rattle.bf_forest.specs.Leaves.{AreLeaves};
+ghost use Rattle.bf_forest.specs.Meanings.{forest};
+ghost use Rattle.bf_forest.specs.Stages.{rounds_of, time_at};
+
+use crate::Forest;
+use bf_program::laws::the_lockstep_stays_good;
+
+/// The ranks begin with a good vector: each root is at one of them, filled, and its copy at that rank's buddy.
+pub fn the_opening_is_good()
+    ensures { (setup : Setup) → IsGood setup (first_epoch (forest.ranks setup) (forest.steps setup) (forest.interval setup)) 0 (forest.opening setup) }
+{}
+
+/// Each round, the steps' and the snapshot's, leads from a good vector to a good one, for all members and all owners of
+/// the roots.
+pub fn a_round_keeps_a_good_vector()
+    ensures { (setup : Setup) (epoch : Epoch) (round : ℕ) (locals : List ForestLocal) → IsGood setup epoch round locals
+        → round < rounds_of epoch → IsGood setup epoch (round + 1) (next_locals forest setup epoch round locals) }
+{}
+
+/// So from a good start the ranks stay good through the rounds of an epoch.
+pub fn the_forest_stays_good()
+    ensures { (setup : Setup) (epoch : Epoch) (start : List ForestLocal) (round : ℕ) → IsGood setup epoch 0 start
+        → round ≤ rounds_of epoch → IsGood setup epoch round (lockstep forest setup epoch start round) }
+{
+    the_lockstep_stays_good::<Forest>();
+}
+
+/// At the beginning of each round the blocks of all members are the leaves of the model's map at that round's time, with
+/// its cells, each leaf once.
+pub fn the_blocks_are_the_models_leaves()
+    ensures { (setup : Setup) (epoch : Epoch) (round : ℕ) (locals : List ForestLocal) → IsGood setup epoch round locals
+        → AreLeaves (model (case_of setup) (time_at epoch round)) (flat_map (λ (local : ForestLocal). local.blocks) locals) }
+{}
+
+/// Once all rounds are done, what the members give are the leaves of the model's map at the epoch's target.
+pub fn an_epoch_ends_at_the_model()
+    ensures { (setup : Setup) (epoch : Epoch) (locals : List ForestLocal) → IsGood setup epoch (rounds_of epoch) locals
+        → AreLeaves (model (case_of setup) epoch.target) (flat_map (λ (local : ForestLocal). (forest.parcel local).1) locals) }
+{}
+
+/// Where no part of the agreed snapshot is lost, a restore gives the live members its leaves, with their cells, each leaf
+/// once.
+pub fn a_restore_rebuilds_the_agreed_map()
+    ensures { (setup : Setup) (epoch : Epoch) (round : ℕ) (locals : List ForestLocal) (lives : ℕ → Bool) → IsGood setup epoch round locals
+        → first_lost_of epoch.homes (forest.stored locals) (filter lives epoch.members) (forest.shift setup) ≡ None
+        → AreLeaves (model (case_of setup) epoch.time) (flat_map (λ (local : ForestLocal). local.blocks) (restored_locals forest setup epoch lives locals)) }
+{}
