@@ -1,5 +1,5 @@
 -- The opening is good; a commit and a restore keep good locals good.
-use Rattle.std.proofs.Common.{◌≡◌, ℕ, ◌+◌, ◌*◌, ◌/◌, ◌-◌, ◌<◌, ◌≤◌, Bool, true, false, cond, List, [], ◌∷◌, ◌++◌, map, min, arith, refl, sym, ◌∙◌, subst}
+use Rattle.std.proofs.Common.{◌≡◌, ℕ, ◌+◌, ◌*◌, ◌/◌, ◌<◌, ◌≤◌, Bool, true, false, cond, List, [], ◌∷◌, ◌++◌, map, arith, refl, sym, ◌∙◌, subst}
 use Rattle.std.specs.Prelude.{◌==◌, filter, None, All}
 use Rattle.std.specs.List.{range_with_len, zip}
 use Rattle.std.proofs.Math.Nat.{div-lt_iff_lt-mul, mul-lt-mul_of_pos_left}
@@ -8,7 +8,7 @@ use Rattle.bf_buddy.specs.Members.{is_member}
 use Rattle.bf_buddy.specs.Buddy.{predecessor_of}
 use Rattle.bf_buddy.specs.Losses.{first_lost_of}
 use Rattle.bf_program.specs.declared.epoch.Epoch.{Epoch}
-use Rattle.bf_program.specs.Epochs.{first_epoch, target_of, epoch_after_commit}
+use Rattle.bf_program.specs.Epochs.{first_epoch, epoch_after_commit}
 use Rattle.bf_program.specs.Restores.{restored_epoch, restored_locals}
 use Rattle.bf_id.specs.Shape.{root_count}
 use Rattle.bf_case.specs.declared.case.Case.{Case}
@@ -27,7 +27,7 @@ use Rattle.bf_forest.specs.declared.local.ForestLocal.{ForestLocal}
 use Rattle.bf_forest.specs.Goods.{IsBlockAt, HasModels, IsGood}
 use Rattle.bf_forest.specs.Meanings.{forest, forest_look, first_blocks, other_blocks, opened, restored}
 use Rattle.bf_forest.specs.StageLaws.{time_first, time_end}
-use Rattle.bf_forest.specs.Stages.{span, rounds_of, time_at}
+use Rattle.bf_forest.specs.Stages.{rounds_of, time_at}
 
 -- the forest keeps its blocks in parts
 pub has_parts : (setup : Setup) → HasParts forest forest_look setup

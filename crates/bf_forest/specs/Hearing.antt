@@ -1,6 +1,6 @@
 -- What a rank has heard at the end of a round.
-use Rattle.std.proofs.Common.{◌≡◌, ℕ, Bool, true, false, cond, List, [], ◌∷◌, ◌++◌, flat_map, refl, ap, sym, ◌∙◌, subst}
-use Rattle.std.specs.Prelude.{◌==◌, ◌||◌, Option, Some, None}
+use Rattle.std.proofs.Common.{◌≡◌, ℕ, Bool, true, false, cond, List, [], ◌∷◌, ◌++◌, flat_map, refl, ap, sym, ◌∙◌}
+use Rattle.std.specs.Prelude.{◌==◌, Option, Some, None}
 use Rattle.std.specs.Option.{option_map_or}
 use Rattle.std.specs.List.Sorted.{IsStrictlyIncreasing}
 use Rattle.std.proofs.lemmas.Bool.{eqb-true}
@@ -15,7 +15,6 @@ use Rattle.bf_block.specs.Block.{BlockValue}
 use Rattle.bf_parts.specs.SideLaws.{gives_is}
 use Rattle.bf_parts.specs.Sides.{gives}
 use Rattle.bf_forest.specs.declared.local.ForestLocal.{ForestLocal}
-use Rattle.bf_forest.specs.declared.message.ForestMessage.{ForestMessage}
 use Rattle.bf_forest.specs.declared.message.ForestMessage.TheVariants.{Snapshot as SnapshotMessage}
 use Rattle.bf_forest.specs.declared.stage.Stage.{Stage}
 use Rattle.bf_forest.specs.declared.stage.Stage.TheVariants.{Step, Snapshot}

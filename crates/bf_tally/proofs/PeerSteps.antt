@@ -1,5 +1,5 @@
 -- The loop that leaves out those who are no peers.
-use Rattle.std.proofs.Common.{◌≡◌, ℕ, ◌+◌, ◌<◌, ◌≤◌, true, false, List, ◌∙◌, All}
+use Rattle.std.proofs.Common.{◌≡◌, ℕ, ◌+◌, ◌<◌, ◌≤◌, true, false, List, All}
 use Rattle.std.specs.Prelude.{◌==◌, not, filter}
 use Rattle.bf_parts.proofs.PassedLemmas.{passed_below, passed_start, passed_stays, passed_goes, passed_end}
 use Rattle.bf_tally.specs.declared.stage.Stage.{Stage}
