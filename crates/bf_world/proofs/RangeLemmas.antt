@@ -1,5 +1,5 @@
 -- Sums over the ranks, lists that rise, and filters that drop a rank.
-use Rattle.std.proofs.Common.{◌≡◌, ℕ, zero, suc, ◌+◌, ◌*◌, ◌<◌, ◌≤◌, Bool, true, false, cond, ◌||◌, List, [], ◌∷◌, filter, length, get_or, arith, refl, sym, subst, ◌∙◌, ap, inl, inr}
+use Rattle.std.proofs.Common.{◌≡◌, ◌≢◌, ℕ, zero, suc, ◌+◌, ◌-◌, ◌*◌, ◌<◌, ◌≤◌, Bool, true, false, cond, ◌||◌, List, [], ◌∷◌, filter, length, get_or, arith, refl, sym, subst, ◌∙◌, ap, inl, inr}
 use Rattle.std.specs.Prelude.{◌==◌, sum_by}
 use Rattle.std.specs.List.{range_with_len}
 use Rattle.std.specs.List.Sorted.{IsStrictlyIncreasing}
@@ -31,11 +31,17 @@ sums_less f g k (suc n) r each less from below = elim (cases_eq k r) [
   )
 ]
 
-pub sums_most : (f : ℕ → ℕ) (k n most : ℕ) → ((i : ℕ) → f i ≤ most) → sum_by f (range_with_len k n) ≤ n * most
-sums_most f k zero most each = omega arith
-sums_most f k (suc n) most each = omega (arith, each k, sum_by-cons f k (range_with_len (k + 1) n), sums_most f (k + 1) n most each)
+pub sums_within : (f : ℕ → ℕ) (k n most : ℕ) → ((i : ℕ) → k ≤ i → i < k + n → f i ≤ most) → sum_by f (range_with_len k n) ≤ n * most
+sums_within f k zero most each = omega arith
+sums_within f k (suc n) most each =
+    omega (
+      arith,
+      each k (omega arith) (omega arith),
+      sum_by-cons f k (range_with_len (k + 1) n),
+      sums_within f (k + 1) n most (λ i from below. each i (omega (arith, from)) (omega (arith, below))),
+    )
 
--- a list that rises below a bound is no longer than the bound
+-- a list that rises below a bound and misses a number below it is shorter than the bound
 
 climbs : (xs : List ℕ) → IsStrictlyIncreasing xs → (k : ℕ) → k < length xs → k ≤ get_or xs k 0
 climbs xs rising zero within = omega arith
@@ -58,10 +64,29 @@ in_at (x ∷ xs) (suc i) within = rest_in (x == get_or xs i 0) (is_member xs (ge
     rest_in true b holds = refl
     rest_in false b holds = holds
 
-pub rising_few : (xs : List ℕ) (bound : ℕ) → IsStrictlyIncreasing xs → ((y : ℕ) → is_member xs y ≡ true → y < bound) → length xs ≤ bound
-rising_few xs bound rising below = elim (cases_lt bound (length xs)) [
-  | inl longer ↦ absurd (omega (arith, climbs xs rising bound longer, below (get_or xs bound 0) (in_at xs bound longer)))
-  | inr within ↦ within
+climbs_over : (xs : List ℕ) (v : ℕ) → IsStrictlyIncreasing xs → ((k : ℕ) → k < length xs → get_or xs k 0 ≢ v)
+    → (k : ℕ) → k < length xs → v < get_or xs k 0 → k + 1 ≤ get_or xs k 0
+climbs_over xs v rising misses zero within above = omega (arith, above)
+climbs_over xs v rising misses (suc k) within above =
+    let next : suc k ≡ k + 1 = omega arith in
+    let P : ℕ → Type 0 = λ n. get_or xs k 0 < get_or xs n 0 in
+    let more : get_or xs k 0 < get_or xs (suc k) 0 = subst P (sym next) (rising k (omega (arith, within))) in
+    let here : k < length xs = omega (arith, within) in
+    elim (cases_lt v (get_or xs k 0)) [
+      | inl over ↦ omega (arith, more, climbs_over xs v rising misses k here over)
+      | inr under ↦ omega (arith, above, under, misses k here, climbs xs rising k here)
+    ]
+
+pub rising_fewer : (xs : List ℕ) (bound v : ℕ) → IsStrictlyIncreasing xs → ((y : ℕ) → is_member xs y ≡ true → (y < bound) × (y ≢ v)) → v < bound → length xs + 1 ≤ bound
+rising_fewer xs bound v rising among below = elim (cases_lt (length xs) bound) [
+  | inl shorter ↦ omega (arith, shorter)
+  | inr full ↦
+      let last : bound - 1 < length xs = omega (arith, full, below) in
+      let its : (get_or xs (bound - 1) 0 < bound) × (get_or xs (bound - 1) 0 ≢ v) = among (get_or xs (bound - 1) 0) (in_at xs (bound - 1) last) in
+      elim (cases_lt v (get_or xs (bound - 1) 0)) [
+        | inl over ↦ absurd (omega (arith, its.0, climbs_over xs v rising (λ k within. (among (get_or xs k 0) (in_at xs k within)).1) (bound - 1) last over))
+        | inr under ↦ absurd (omega (arith, its.1, under, below, climbs xs rising (bound - 1) last))
+      ]
 ]
 
 -- a filter that drops a member leaves fewer

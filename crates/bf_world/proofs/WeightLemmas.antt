@@ -1,8 +1,9 @@
 -- A number that every legal event of a lawful run lowers.
-use Rattle.std.proofs.Common.{◌≡◌, ◌≢◌, ℕ, zero, suc, ◌+◌, ◌-◌, ◌*◌, ◌<◌, ◌≤◌, Bool, true, false, ◌&&◌, ◌||◌, not, List, [], ◌∷◌, ◌++◌, map, filter, length, nat_lt, slice_set, arith, refl, sym, subst, ◌∙◌, ap, inl, inr}
+use Rattle.std.proofs.Common.{◌≡◌, ◌≢◌, ℕ, zero, suc, ◌+◌, ◌-◌, ◌*◌, ◌/◌, ◌%◌, ◌^◌, ◌<◌, ◌≤◌, Bool, true, false, ◌&&◌, ◌||◌, not, List, [], ◌∷◌, ◌++◌, map, filter, length, nat_lt, slice_set, arith, refl, sym, subst, ◌∙◌, ap, inl, inr}
 use Rattle.std.specs.Prelude.{◌==◌, Option, Some, None, is_some, if◌then◌else◌, slice_get}
 use Rattle.std.specs.List.{range_with_len}
 use Rattle.std.proofs.Math.Nat.{mul-le-mul_left}
+use Rattle.std.proofs.lemmas.Nat.{div-add-mod', div-mul-add, mod_below}
 use Rattle.std.proofs.lemmas.Bool.{cases_eq, eq-eqb, ltb-true, ltb-false}
 use Rattle.std.proofs.lemmas.List.{get_or-set_same, get_or-set_other}
 use Rattle.std.proofs.lemmas.List.Sums.{sum_by-le-sum_by}
@@ -41,11 +42,11 @@ use Rattle.bf_world.specs.Course.{peers_at, place_with, place_from, after_send, 
 use Rattle.bf_world.specs.Runs.{Run, place, begun, last_locals, deaths, opening_run, will_be_filled, run_happened, run_decided, run_settled, next_run, is_legal_in, run_from, is_legal_from, run_after, is_journal}
 use Rattle.bf_world.specs.Worlds.{is_restore, brings_decision, brings_restore, restores_from, restores_in}
 use Rattle.bf_world.proofs.StopLemmas.{no_restore}
-use Rattle.bf_world.specs.Weights.{peers_left, steps_left, left_of, epochs_left, most_left, left_of_rank, total, bound, weight}
+use Rattle.bf_world.specs.Weights.{peers_left, steps_left, intervals_in, left_of, epochs_left, most_left, left_of_rank, total, bound, weight_within, weight, most_events}
 use Rattle.bf_world.proofs.LawfulLemmas.{just, IsSteady, IsLawful, next_lawful, opening_lawful, after_lawful, core_next}
 use Rattle.bf_world.proofs.PeerLemmas.{peers_rise, peer_is_other}
 use Rattle.bf_world.proofs.PlaceLemmas.{IsPlaced, receives_at}
-use Rattle.bf_world.proofs.RangeLemmas.{sums_less, sums_most, rising_few, filter_fewer}
+use Rattle.bf_world.proofs.RangeLemmas.{sums_less, rising_fewer, sums_within, filter_fewer}
 use Rattle.bf_core.proofs.ListLemmas.{in_filtered, fails_at}
 use Rattle.bf_world.proofs.RunLemmas.{run_more}
 use Rattle.bf_world.proofs.WaitingLemmas.{below_end}
@@ -322,7 +323,7 @@ module _ {S L M T R : Type 0} (m : Meanings S L M T R) (setup : S) (epoch : Epoc
 
 -- the weight of a run
 
-left_most : (over : Bool) (s : Stage) (steps : ℕ) → left_of over s steps ≤ 4 + steps
+left_most : (over : Bool) (s : Stage) (steps : ℕ) → left_of over s steps ≤ 3 + steps
 left_most over Running steps = omega arith
 left_most over (Arrived how filled) steps = omega arith
 left_most true Leaving steps = omega arith
@@ -331,8 +332,8 @@ left_most over Ended steps = omega arith
 left_most over Dead steps = omega arith
 left_most over Gone steps = omega arith
 
-arrive_lowers : (over : Bool) (s : Stage) (steps : ℕ) → s ≡ Running → 2 < left_of over s steps
-arrive_lowers over s steps runs = let P : Stage → Type 0 = λ t. 2 < left_of over t steps in subst P (sym runs) (omega arith)
+arrive_lowers : (over : Bool) (s : Stage) (steps : ℕ) → s ≡ Running → 1 < left_of over s steps
+arrive_lowers over s steps runs = let P : Stage → Type 0 = λ t. 1 < left_of over t steps in subst P (sym runs) (omega arith)
 
 leave_lowers : (over : Bool) (s : Stage) (steps : ℕ) → s ≡ Leaving → left_of over (if over then Ended else Running) steps < left_of over s steps
 leave_lowers over s steps leaving = let P : Stage → Type 0 = λ t. left_of over (if over then Ended else Running) steps < left_of over t steps in subst P (sym leaving) (by_end over)
@@ -430,12 +431,27 @@ epochs_same state (Arrive rank how) filled = refl
 epochs_same state (Leave rank) filled = refl
 epochs_same state (Die rank) filled = refl
 
+-- an interval more
+one_more_interval : (time interval : ℕ) → 1 ≤ interval → intervals_in (time + interval) interval ≡ intervals_in time interval + 1
+one_more_interval time interval some =
+    let n : ℕ = time + (interval - 1) in
+    let whole : n / interval * interval + n % interval ≡ n = div-add-mod' n interval in
+    let below : n % interval < interval = mod_below n interval (omega (arith, some)) in
+    let more : (n / interval + 1) * interval ≡ n / interval * interval + interval = one_row (n / interval) interval in
+    ap (λ k. k / interval) (let e : (time + interval) + (interval - 1) ≡ (n / interval + 1) * interval + n % interval = omega (arith, whole, more, some) in e)
+    ∙ div-mul-add (n / interval + 1) interval (n % interval) below
+  where
+    one_row : (a w : ℕ) → (a + 1) * w ≡ a * w + w
+    one_row a w = omega arith
+
 -- a commit that goes on moves the time
 commit_epochs : (steps time target interval members : ℕ) → target ≡ target_of steps interval time → 1 ≤ interval → (target == steps) ≡ false
-    → (steps - target) + members + 1 ≤ (steps - time) + members
+    → intervals_in (steps - target) interval + members + 1 ≤ intervals_in (steps - time) interval + members
 commit_epochs steps time target interval members timed some unended = elim (cases_eq target steps) [
   | inl same ↦ absurd (let e : true ≡ false = sym (eq-eqb target steps same) ∙ unended in cc)
-  | inr other ↦ omega (arith, timed, some, other)
+  | inr other ↦
+      let apart : steps - time ≡ (steps - target) + interval = omega (arith, timed, some, other) in
+      omega (arith, ap (λ n. intervals_in n interval) apart ∙ one_more_interval (steps - target) interval some)
 ]
 
 committed_epochs : (state : State) → state.outcome ≡ None → IsTimed state → 1 ≤ state.interval → (state.epoch.target == state.steps) ≡ false
@@ -456,7 +472,7 @@ ended_epochs : (state : State) (outcome : Outcome) → epochs_left (ended state 
 unfolding epochs_left dissolved
 ended_epochs state outcome = refl
 
-module _ {S L M T R : Type 0} (m : Meanings S L M T R) (good : S → Epoch → ℕ → List L → Type 0) (setup : S) where
+module _ {S L M T R : Type 0} (m : Meanings S L M T R) (good : S → Epoch → ℕ → List L → Type 0) (setup : S) (rounds : ℕ) where
   -- before any decision, an event leaves less of its rank
   happened_less : (run : Run L T) (event : Event) → IsSteady m good setup run → IsSound run.core → is_legal run.core event (place run (actor event)) ≡ true
       → total m setup (run_happened m setup run event) < total m setup run
@@ -497,22 +513,22 @@ module _ {S L M T R : Type 0} (m : Meanings S L M T R) (good : S → Epoch → �
       staged_less m setup run _ rank Dead listed (omega (arith, listed, steady.ranks, sound.size)) (die_lowers (is_some run.core.outcome) (stage run.core rank) _ goes)
 
   happened_weight : (run : Run L T) (event : Event) → IsSteady m good setup run → IsSound run.core → is_legal run.core event (place run (actor event)) ≡ true
-      → weight m setup (run_happened m setup run event) < weight m setup run
-  unfolding weight
+      → weight_within m setup rounds (run_happened m setup run event) < weight_within m setup rounds run
+  unfolding weight_within
   happened_weight run event steady sound legal =
       omega (
         arith,
         happened_less run event steady sound legal,
-        ap (λ n. bound m setup * n) (epochs_same run.core event (will_be_filled m setup run (actor event))),
+        ap (λ n. bound m setup rounds * n) (epochs_same run.core event (will_be_filled m setup run (actor event))),
       )
 
   -- after an end no epoch is left, and of no rank more
-  ended_weight : (run : Run L T) (outcome : Outcome) → run.core.outcome ≡ None → weight m setup (record run { core = ended run.core outcome }) ≤ weight m setup run
-  unfolding weight total dissolved
+  ended_weight : (run : Run L T) (outcome : Outcome) → run.core.outcome ≡ None → weight_within m setup rounds (record run { core = ended run.core outcome }) ≤ weight_within m setup rounds run
+  unfolding weight_within total dissolved
   ended_weight run outcome none =
       omega (
         arith,
-        ap (λ n. bound m setup * n) (ended_epochs run.core outcome),
+        ap (λ n. bound m setup rounds * n) (ended_epochs run.core outcome),
         sum_by-le-sum_by (left_of_rank m setup after) (left_of_rank m setup run) (range_with_len 0 (m.ranks setup)) each,
       )
     where
@@ -531,15 +547,15 @@ module _ {S L M T R : Type 0} (m : Meanings S L M T R) (good : S → Epoch → �
           )
 
   -- where an epoch less is left, anything may be left of the ranks
-  epoch_weight : (before after : Run L T) → epochs_left after.core + 1 ≤ epochs_left before.core → total m setup after < bound m setup
-      → weight m setup after ≤ weight m setup before
-  unfolding weight
-  epoch_weight before after fewer small = omega (arith, small, mul-le-mul_left (bound m setup) fewer)
+  epoch_weight : (before after : Run L T) → epochs_left after.core + 1 ≤ epochs_left before.core → total m setup after ≤ bound m setup rounds
+      → weight_within m setup rounds after ≤ weight_within m setup rounds before
+  unfolding weight_within
+  epoch_weight before after fewer small = omega (arith, small, mul-le-mul_left (bound m setup rounds) fewer)
 
   decided_weight : (run : Run L T) (made : Decision) → run.core.outcome ≡ None → IsTimed run.core → 1 ≤ run.core.interval
       → (made ≡ Restore → Missing run.core)
-      → ((run_decided m setup run made).core.outcome ≡ None → total m setup (run_decided m setup run made) < bound m setup)
-      → weight m setup (run_decided m setup run made) ≤ weight m setup run
+      → ((run_decided m setup run made).core.outcome ≡ None → total m setup (run_decided m setup run made) ≤ bound m setup rounds)
+      → weight_within m setup rounds (run_decided m setup run made) ≤ weight_within m setup rounds run
   unfolding decided dissolved
   decided_weight run (Lose home buddy) none timed some missing small = ended_weight run (outcomes.Lost run.core.epoch.time home buddy) none
   decided_weight run WantMemory none timed some missing small = ended_weight run outcomes.Memory none
@@ -549,8 +565,8 @@ module _ {S L M T R : Type 0} (m : Meanings S L M T R) (good : S → Epoch → �
       after b = if b then record run { core = if b then ended run.core outcomes.Finished else committed run.core }
           else begun m setup (if b then ended run.core outcomes.Finished else committed run.core) (map m.keep (last_locals m setup run)) run.parcels
 
-      at_end : (b : Bool) → (run.core.epoch.target == run.core.steps) ≡ b → ((after b).core.outcome ≡ None → total m setup (after b) < bound m setup)
-          → weight m setup (after b) ≤ weight m setup run
+      at_end : (b : Bool) → (run.core.epoch.target == run.core.steps) ≡ b → ((after b).core.outcome ≡ None → total m setup (after b) ≤ bound m setup rounds)
+          → weight_within m setup rounds (after b) ≤ weight_within m setup rounds run
       at_end true ends _ = ended_weight run outcomes.Finished none
       at_end false unended few = epoch_weight run (begun m setup (committed run.core) (map m.keep (last_locals m setup run)) run.parcels)
           (committed_epochs run.core none timed some unended) (few none)
@@ -566,44 +582,68 @@ happened_interval state (Arrive rank how) filled = refl
 happened_interval state (Leave rank) filled = refl
 happened_interval state (Die rank) filled = refl
 
+module _ {S L M T R : Type 0} (m : Meanings S L M T R) (setup : S) where
+  opening_members : length (opening_run {T = T} m setup).core.epoch.members ≡ m.ranks setup
+  unfolding opening_run opening
+  opening_members = length-range_with_len 0 (m.ranks setup)
+
+  opening_unended : (opening_run {T = T} m setup).core.outcome ≡ None
+  unfolding opening_run opening
+  opening_unended = refl
+
+  opening_epochs : epochs_left (opening_run {T = T} m setup).core ≡ intervals_in (m.steps setup) (m.interval setup) + m.ranks setup
+  unfolding epochs_left opening_run opening
+  opening_epochs =
+      let all : m.steps setup - 0 ≡ m.steps setup = omega arith in
+      ap (λ n. intervals_in n (m.interval setup) + length (range_with_len 0 (m.ranks setup))) all
+      ∙ ap (λ n. intervals_in (m.steps setup) (m.interval setup) + n) (length-range_with_len 0 (m.ranks setup))
+
 module _ {S L M T R : Type 0} (m : Meanings S L M T R) (good : S → Epoch → ℕ → List L → Type 0) (setup : S)
-    (goods : KeepsGood m good setup) (stores : KeepsStored m good setup) (peers : KeepsPeers m good setup) (limits : KeepsLimits m setup) where
-  -- a rank has at most as many peers as there are ranks
-  few_peers : (run : Run L T) → IsLawful m good setup goods stores run → run.core.outcome ≡ None → (rank round : ℕ) → round < m.rounds setup run.core.epoch
-      → length (peers_at m setup run.core.epoch run.start rank round) ≤ 32
-  few_peers run lawful none rank round within =
-      rising_few (peers_at m setup run.core.epoch run.start rank round) 32
-      (peers_rise m good setup goods peers run.core.epoch run.start lawful.steady.good_start rank round within) below
+    (goods : KeepsGood m good setup) (stores : KeepsStored m good setup) (peers : KeepsPeers m good setup) (limits : KeepsLimits m setup)
+    (rounds : ℕ) (few_rounds : (epoch : Epoch) → m.rounds setup epoch ≤ rounds) where
+  -- a rank has at most as many peers as there are other ranks
+  few_peers : (run : Run L T) → IsLawful m good setup goods stores run → run.core.outcome ≡ None → (rank round : ℕ) → rank < m.ranks setup → round < m.rounds setup run.core.epoch
+      → length (peers_at m setup run.core.epoch run.start rank round) ≤ m.ranks setup - 1
+  few_peers run lawful none rank round ranked within =
+      let few : length (peers_at m setup run.core.epoch run.start rank round) + 1 ≤ m.ranks setup =
+      rising_fewer (peers_at m setup run.core.epoch run.start rank round) (m.ranks setup) rank
+      (peers_rise m good setup goods peers run.core.epoch run.start lawful.steady.good_start rank round within) others ranked in
+      omega (arith, few)
     where
-      below : (y : ℕ) → is_member (peers_at m setup run.core.epoch run.start rank round) y ≡ true → y < 32
-      below y among =
-          let member : is_member run.core.epoch.members y ≡ true =
-          (peer_is_other m good setup goods peers run.core.epoch run.start lawful.steady.good_start rank y round within among).0 in
+      others : (y : ℕ) → is_member (peers_at m setup run.core.epoch run.start rank round) y ≡ true → (y < m.ranks setup) × (y ≢ rank)
+      others y among =
+          let other : (is_member run.core.epoch.members y ≡ true) × (y ≢ rank) =
+          peer_is_other m good setup goods peers run.core.epoch run.start lawful.steady.good_start rank y round within among in
           let remains : is_member (filter (λ r. not (is_gone (stage run.core r))) (range_with_len 0 run.core.ranks)) y ≡ true =
-          ap (λ members. is_member members y) (sym (lawful.sound.members none)) ∙ member in
-          omega (arith, below_end (λ r. not (is_gone (stage run.core r))) 0 run.core.ranks y remains, lawful.steady.ranks, limits.ranks)
+          ap (λ members. is_member members y) (sym (lawful.sound.members none)) ∙ other.0 in
+          (omega (arith, below_end (λ r. not (is_gone (stage run.core r))) 0 run.core.ranks y remains, lawful.steady.ranks), other.1)
 
-  -- while a run goes on, a rank has at most 2 * rounds * 32 sends and receives before it
-  pub steps_few : (run : Run L T) → IsLawful m good setup goods stores run → run.core.outcome ≡ None → (rank : ℕ)
-      → steps_left m setup run.core.epoch run.start rank (place run rank) ≤ 2 * (m.rounds setup run.core.epoch * 32)
-  steps_few run lawful none rank =
-      steps_most m setup run.core.epoch run.start 32 rank (place run rank) (few_peers run lawful none rank) (lawful.steady.placed rank)
+  -- while a run goes on, a rank has at most a send and a receive with each other rank in each round before it
+  pub steps_few : (run : Run L T) → IsLawful m good setup goods stores run → run.core.outcome ≡ None → (rank : ℕ) → rank < m.ranks setup
+      → steps_left m setup run.core.epoch run.start rank (place run rank) ≤ 2 * (m.rounds setup run.core.epoch * (m.ranks setup - 1))
+  steps_few run lawful none rank ranked =
+      steps_most m setup run.core.epoch run.start (m.ranks setup - 1) rank (place run rank) (λ k within. few_peers run lawful none rank k ranked within) (lawful.steady.placed rank)
 
-  left_bounded : (run : Run L T) → IsLawful m good setup goods stores run → run.core.outcome ≡ None → (rank : ℕ) → left_of_rank m setup run rank ≤ most_left
+  left_bounded : (run : Run L T) → IsLawful m good setup goods stores run → run.core.outcome ≡ None → (rank : ℕ) → rank < m.ranks setup
+      → left_of_rank m setup run rank ≤ most_left (m.ranks setup) rounds
   unfolding most_left
-  left_bounded run lawful none rank =
+  left_bounded run lawful none rank ranked =
       omega (
         arith,
         left_is m setup run rank,
         left_most (is_some run.core.outcome) (stage run.core rank) (steps_left m setup run.core.epoch run.start rank (place run rank)),
-        steps_few run lawful none rank,
-        limits.rounds run.core.epoch,
+        steps_few run lawful none rank ranked,
+        more_rounds (m.rounds setup run.core.epoch) rounds (m.ranks setup - 1) (few_rounds run.core.epoch),
       )
+    where
+      more_rounds : (a b n : ℕ) → a ≤ b → a * n ≤ n * b
+      more_rounds a b n less = omega (arith, mul-le-mul_left n less)
 
-  -- while a run goes on, what is left of all ranks is below the bound
-  pub total_bounded : (run : Run L T) → IsLawful m good setup goods stores run → run.core.outcome ≡ None → total m setup run < bound m setup
+  -- while a run goes on, what is left of all ranks is within the bound
+  pub total_bounded : (run : Run L T) → IsLawful m good setup goods stores run → run.core.outcome ≡ None → total m setup run ≤ bound m setup rounds
   unfolding total bound
-  total_bounded run lawful none = omega (arith, sums_most (left_of_rank m setup run) 0 (m.ranks setup) most_left (left_bounded run lawful none))
+  total_bounded run lawful none =
+      sums_within (left_of_rank m setup run) 0 (m.ranks setup) (most_left (m.ranks setup) rounds) (λ rank from below. left_bounded run lawful none rank (omega (arith, below)))
 
   next_decides : (run : Run L T) (event : Event) → may_decide event ≡ true → is_ripe (run_happened m setup run event).core ≡ true
       → next_run m setup run event ≡ run_decided m setup (run_happened m setup run event) (decision (run_happened m setup run event).core)
@@ -612,15 +652,15 @@ module _ {S L M T R : Type 0} (m : Meanings S L M T R) (good : S → Epoch → �
 
   -- every legal event lowers the weight
   pub weight_falls : (run : Run L T) (event : Event) → IsLawful m good setup goods stores run → IsTimed run.core → is_legal_in m setup run event ≡ true
-      → weight m setup (next_run m setup run event) < weight m setup run
+      → weight_within m setup rounds (next_run m setup run event) < weight_within m setup rounds run
   unfolding next_run is_legal_in
   weight_falls run event lawful timed legal = by_event (may_decide event) refl
     where
       core_legal : is_legal run.core event (place run (actor event)) ≡ true
       core_legal = first_of_two (is_legal run.core event (place run (actor event))) _ legal
 
-      before : weight m setup (run_happened m setup run event) < weight m setup run
-      before = happened_weight m good setup run event lawful.steady lawful.sound core_legal
+      before : weight_within m setup rounds (run_happened m setup run event) < weight_within m setup rounds run
+      before = happened_weight m good setup rounds run event lawful.steady lawful.sound core_legal
 
       state : State
       state = happened run.core event (will_be_filled m setup run (actor event))
@@ -629,9 +669,9 @@ module _ {S L M T R : Type 0} (m : Meanings S L M T R) (good : S → Epoch → �
       some = omega (arith, happened_interval run.core event (will_be_filled m setup run (actor event)), lawful.steady.interval, limits.some_interval)
 
       ripe_weight : may_decide event ≡ true → is_ripe state ≡ true
-          → weight m setup (run_decided m setup (run_happened m setup run event) (decision state)) ≤ weight m setup (run_happened m setup run event)
+          → weight_within m setup rounds (run_decided m setup (run_happened m setup run event) (decision state)) ≤ weight_within m setup rounds (run_happened m setup run event)
       ripe_weight may ripe =
-          decided_weight m good setup (run_happened m setup run event) (decision state)
+          decided_weight m good setup rounds (run_happened m setup run event) (decision state)
           (running_where_ripe state ripe)
           (happened_timed run.core event (will_be_filled m setup run (actor event)) timed)
           some
@@ -640,11 +680,11 @@ module _ {S L M T R : Type 0} (m : Meanings S L M T R) (good : S → Epoch → �
           (subst (IsLawful m good setup goods stores) (next_decides run event may ripe) (next_lawful m good setup goods stores run event lawful legal)))
 
       by_ripe : may_decide event ≡ true → (b : Bool) → is_ripe state ≡ b
-          → weight m setup (if b then run_decided m setup (run_happened m setup run event) (decision state) else run_happened m setup run event) < weight m setup run
+          → weight_within m setup rounds (if b then run_decided m setup (run_happened m setup run event) (decision state) else run_happened m setup run event) < weight_within m setup rounds run
       by_ripe may true ripe = omega (arith, ripe_weight may ripe, before)
       by_ripe may false unripe = before
 
-      by_event : (b : Bool) → may_decide event ≡ b → weight m setup (if b then run_settled m setup (run_happened m setup run event) else run_happened m setup run event) < weight m setup run
+      by_event : (b : Bool) → may_decide event ≡ b → weight_within m setup rounds (if b then run_settled m setup (run_happened m setup run event) else run_happened m setup run event) < weight_within m setup rounds run
       by_event true may = by_ripe may (is_ripe state) refl
       by_event false may = before
 
@@ -665,16 +705,16 @@ module _ {S L M T R : Type 0} (m : Meanings S L M T R) (good : S → Epoch → �
   after_timed journal = from_timed (opening_run m setup) journal opening_run_timed
 
   -- and so does every event that a journal may go on with
-  pub journal_falls : (journal : List Event) (event : Event) → is_journal m setup journal ≡ true → is_legal_in m setup (run_after m setup journal) event ≡ true
-      → weight m setup (run_after m setup (journal ++ event ∷ [])) < weight m setup (run_after m setup journal)
-  journal_falls journal event told legal =
-      let P : Run L T → Type 0 = λ run. weight m setup run < weight m setup (run_after m setup journal) in
+  pub journal_lowers : (journal : List Event) (event : Event) → is_journal m setup journal ≡ true → is_legal_in m setup (run_after m setup journal) event ≡ true
+      → weight_within m setup rounds (run_after m setup (journal ++ event ∷ [])) < weight_within m setup rounds (run_after m setup journal)
+  journal_lowers journal event told legal =
+      let P : Run L T → Type 0 = λ run. weight_within m setup rounds run < weight_within m setup rounds (run_after m setup journal) in
       subst P (sym (run_more m setup journal event))
       (weight_falls (run_after m setup journal) event (after_lawful m good setup goods stores limits journal told) (after_timed journal) legal)
 
-  -- so a journal is no longer than what is left at the opening
+  -- so a journal is no longer than what is left before it
   lightens : (run : Run L T) (journal : List Event) → IsLawful m good setup goods stores run → IsTimed run.core → is_legal_from m setup run journal ≡ true
-      → length journal + weight m setup (run_from m setup run journal) ≤ weight m setup run
+      → length journal + weight_within m setup rounds (run_from m setup run journal) ≤ weight_within m setup rounds run
   lightens run [] lawful timed legal = omega arith
   lightens run (event ∷ events) lawful timed legal =
       let first : is_legal_in m setup run event ≡ true = first_of_two (is_legal_in m setup run event) _ legal in
@@ -686,10 +726,35 @@ module _ {S L M T R : Type 0} (m : Meanings S L M T R) (good : S → Epoch → �
       )
 
   pub journal_bounded : (journal : List Event) → is_journal m setup journal ≡ true
-      → length journal + weight m setup (run_after m setup journal) ≤ weight m setup (opening_run m setup)
+      → length journal + weight_within m setup rounds (run_after m setup journal) ≤ weight_within m setup rounds (opening_run m setup)
   unfolding run_after is_journal
   journal_bounded journal legal =
       lightens (opening_run m setup) journal (opening_lawful m good setup goods stores limits) opening_run_timed legal
+
+  opening_total : total m setup (opening_run m setup) ≤ bound m setup rounds
+  opening_total = total_bounded (opening_run m setup) (opening_lawful m good setup goods stores limits) (opening_unended m setup)
+
+  -- and than what all ranks may do in all epochs
+  pub journal_short : (journal : List Event) → is_journal m setup journal ≡ true → length journal ≤ most_events m setup rounds
+  unfolding most_events weight_within bound
+  journal_short journal legal =
+      omega (
+        arith,
+        journal_bounded journal legal,
+        opening_total,
+        ap (λ n. (m.ranks setup * most_left (m.ranks setup) rounds) * n) (opening_epochs m setup),
+        all_epochs (intervals_in (m.steps setup) (m.interval setup)) (m.ranks setup) (m.ranks setup * most_left (m.ranks setup) rounds),
+      )
+    where
+      all_epochs : (a n b : ℕ) → (a + 1 + n) * b ≡ b * (a + n) + b
+      all_epochs a n b = omega arith
+
+module _ {S L M T R : Type 0} (m : Meanings S L M T R) (good : S → Epoch → ℕ → List L → Type 0) (setup : S)
+    (goods : KeepsGood m good setup) (stores : KeepsStored m good setup) (peers : KeepsPeers m good setup) (limits : KeepsLimits m setup) where
+  -- the same, whatever the numbers of rounds
+  pub journal_falls : (journal : List Event) (event : Event) → is_journal m setup journal ≡ true → is_legal_in m setup (run_after m setup journal) event ≡ true
+      → weight m setup (run_after m setup (journal ++ event ∷ [])) < weight m setup (run_after m setup journal)
+  journal_falls = journal_lowers m good setup goods stores peers limits (2 ^ 32 - 1) (λ epoch. omega (arith, limits.rounds epoch))
 
   restores_bounded : (run : Run L T) (journal : List Event) (before : ℕ) → IsLawful m good setup goods stores run → is_legal_from m setup run journal ≡ true
       → restores_from m setup run journal before + length (run_from m setup run journal).core.epoch.members ≤ before + length run.core.epoch.members
@@ -718,12 +783,8 @@ module _ {S L M T R : Type 0} (m : Meanings S L M T R) (good : S → Epoch → �
       by_restore true fewer rest = omega (arith, fewer, rest (before + 1))
       by_restore false same rest = omega (arith, same, rest before)
 
-  opening_members : length (opening_run m setup).core.epoch.members ≡ m.ranks setup
-  unfolding opening_run opening
-  opening_members = length-range_with_len 0 (m.ranks setup)
-
   -- with each restore a member less is left
   pub restores_few : (journal : List Event) → is_journal m setup journal ≡ true → restores_in m setup journal + length (run_after m setup journal).core.epoch.members ≤ m.ranks setup
   unfolding restores_in run_after is_journal
   restores_few journal legal =
-      omega (arith, restores_bounded (opening_run m setup) journal 0 (opening_lawful m good setup goods stores limits) legal, opening_members)
+      omega (arith, restores_bounded (opening_run m setup) journal 0 (opening_lawful m good setup goods stores limits) legal, opening_members m setup)

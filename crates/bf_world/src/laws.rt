@@ -2,6 +2,7 @@
 ghost use Rattle.std.specs.Prelude.{◌≡◌, ◌≢◌, ℕ, ◌+◌, ◌<◌, ◌≤◌, ◌⊎◌, false, IsTrue, List, [], ◌∷◌, ◌++◌, length, Some, is_some, IsPermutation};
 ghost use Rattle.std.specs.List.{list_any};
 ghost use Rattle.bf_buddy.specs.Members.{is_member};
+ghost use Rattle.bf_program.specs.declared.epoch.Epoch.{Epoch};
 ghost use Rattle.bf_core.specs.declared.event.Event.{Event};
 ghost use Rattle.bf_core.specs.declared.outcome.Outcome.{Outcome};
 ghost use Rattle.bf_core.specs.declared.outcome.Outcome.TheVariants.{Finished, Lost, Memory};
@@ -11,8 +12,8 @@ ghost use Rattle.bf_core.specs.Orders.{IsReached};
 ghost use Rattle.bf_world.specs.Ends.{NobodyDies, tells_of_death};
 ghost use Rattle.bf_world.specs.Queues.{no_messages};
 ghost use Rattle.bf_world.specs.Results.{parcels_of};
-ghost use Rattle.bf_world.specs.Runs.{opening_run, run_after, is_journal, is_legal_in, last_locals};
-ghost use Rattle.bf_world.specs.Weights.{weight};
+ghost use Rattle.bf_world.specs.Runs.{run_after, is_journal, is_legal_in, last_locals};
+ghost use Rattle.bf_world.specs.Weights.{weight, most_events};
 ghost use Rattle.bf_world.specs.Worlds.{View, IsView, core_after, restores_in};
 
 use bf_buddy::laws::nothing_is_lost_where_holders_live;
@@ -109,10 +110,10 @@ pub fn an_event_lowers_what_is_left<P: RankProgram>()
         → weight P.meanings setup (run_after P.meanings setup (journal ++ event ∷ [])) < weight P.meanings setup (run_after P.meanings setup journal) }
 {}
 
-/// So a journal is no longer than what is left at the opening.
+/// So a journal is bounded by the numbers of ranks, of rounds of an epoch, and of snapshots.
 pub fn a_journal_is_bounded<P: RankProgram>()
-    ensures { (setup : P.Setup) (journal : List Event) → IsTrue (is_journal P.meanings setup journal)
-        → length journal ≤ weight P.meanings setup (opening_run P.meanings setup) }
+    ensures { (setup : P.Setup) (journal : List Event) (rounds : ℕ) → ((epoch : Epoch) → P.meanings.rounds setup epoch ≤ rounds)
+        → IsTrue (is_journal P.meanings setup journal) → length journal ≤ most_events P.meanings setup rounds }
 {}
 
 /// Each restore leaves a member behind.

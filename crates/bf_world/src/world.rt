@@ -134,7 +134,7 @@ impl<P: RankProgram> World<P> {
         self.journal.events()
     }
 
-    /// How many restores there were: less than there are ranks, since each leaves a member behind.
+    /// How many restores there were: at most as many as there are ranks, since each leaves a member behind.
     pub fn restores(&self) -> u32
         ensures { result ≡ restores_in P.meanings self.now.setup self.now.journal }
     {
