@@ -55,10 +55,7 @@ fn opened(rt: &impl Abort, alloc: Global) -> Result<(Opening, Setup), Memory>
 }
 
 // The locals of both ranks at the opening.
-fn both(
-    setup: &Setup,
-    mut locals: Vec<ForestLocal>,
-) -> Result<(ForestLocal, ForestLocal), Memory>
+fn both(setup: &Setup, mut locals: Vec<ForestLocal>) -> Result<(ForestLocal, ForestLocal), Memory>
     requires locals { locals.items ≡ forest.opening setup.now }
     requires ranks { (case_of setup.now).ranks ≡ 2 }
     ensures first { IfOk result (λ pair. pair.0 ≡ opened (case_of setup.now) 0) }
@@ -94,6 +91,18 @@ fn step_both(
     step(alloc, setup, second)
 }
 
+fn two_members() -> Members {
+    Members::all(2)
+}
+
+fn lone_member() -> Members {
+    Members::all(1)
+}
+
+fn first_epoch() -> Epoch {
+    Epoch::first(2, 2, 1)
+}
+
 // A message of the snapshot's round goes from a rank to another.
 fn pass_part(
     alloc: Global,
@@ -113,19 +122,18 @@ fn commit_both(
     first: &mut ForestLocal,
     second: &mut ForestLocal,
 ) -> Result<(), Memory> {
-    let epoch = Epoch::first(2, 2, 1);
-    pass_part(alloc, epoch.members, first, second)?;
-    pass_part(alloc, epoch.members, second, first)?;
-    snap(alloc, setup, first, epoch)?;
-    snap(alloc, setup, second, epoch)?;
+    pass_part(alloc, two_members(), first, second)?;
+    pass_part(alloc, two_members(), second, first)?;
+    snap(alloc, setup, first, first_epoch())?;
+    snap(alloc, setup, second, first_epoch())?;
     Forest::keep(first);
     Forest::keep(second);
     Ok(())
 }
 
-fn expect_cells(rt: &impl Abort, blocks: &[Block], place: usize, values: &[u32]) {
+fn expect_cells(rt: &impl Abort, blocks: &[Block], place: usize, values: [u32; 8]) {
     assert!(rt; place < blocks.len());
-    assert_eq!(rt; blocks[place].cells().values(), values);
+    assert_eq!(rt; blocks[place].cells().values(), values.as_slice());
 }
 
 fn expect_filled(rt: &impl Abort, local: &ForestLocal, filled: bool) {
@@ -143,27 +151,39 @@ fn expect_both_regained(
     alloc: Global,
     first: &mut ForestLocal,
 ) -> Result<(), Memory> {
-    go_back(alloc, first, 0, Members::all(1))?;
-    let all = told(alloc, Stage::Step, Members::all(1), 0, first, 0)?;
+    go_back(alloc, first, 0, lone_member())?;
+    let all = told(alloc, Stage::Step, lone_member(), 0, first, 0)?;
     expect_measure(rt, &all, 2, 640);
-    let none = told(alloc, Stage::Snapshot, Members::all(2), 0, first, 0)?;
+    let none = told(alloc, Stage::Snapshot, two_members(), 0, first, 0)?;
     expect_measure(rt, &none, 0, 0);
     let blocks = Forest::parcel(first);
-    expect_cells(rt, blocks.as_slice(), 0, [80, 70, 80, 70, 80, 70, 80, 70].as_slice());
-    expect_cells(rt, blocks.as_slice(), 1, [10, 0, 10, 0, 10, 0, 10, 0].as_slice());
+    expect_cells(rt, blocks.as_slice(), 0, [80, 70, 80, 70, 80, 70, 80, 70]);
+    expect_cells(rt, blocks.as_slice(), 1, [10, 0, 10, 0, 10, 0, 10, 0]);
     Ok(())
 }
 
+// Both ranks after a step.
+fn stepped_both(
+    rt: &impl Abort,
+    alloc: Global,
+    opening: Opening,
+    setup: &Setup,
+) -> Result<(ForestLocal, ForestLocal), Memory>
+    requires { opening ≡ case_of setup.now }
+{
+    assert!(rt; setup.ranks() == 2);
+    assert!(rt; setup.steps() == 2);
+    let locals = load(alloc, opening, setup)?;
+    let (mut first, mut second) = both(setup, locals)?;
+    step_both(alloc, setup, &mut first, &mut second)?;
+    Ok((first, second))
+}
+
 #[test]
-#[tactic(none)]
 fn cells_spread_between_ranks(rt: HostRuntime) -> Result<(), Fail> {
     let alloc = rt.alloc();
     let (opening, setup) = opened(&rt, alloc)?;
-    assert!(rt; setup.ranks() == 2);
-    assert!(rt; setup.steps() == 2);
-    let locals = load(alloc, opening, &setup)?;
-    let (mut first, mut second) = both(&setup, locals)?;
-    step_both(alloc, &setup, &mut first, &mut second)?;
+    let (mut first, mut second) = stepped_both(&rt, alloc, opening, &setup)?;
     expect_filled(&rt, &first, false);
     commit_both(alloc, &setup, &mut first, &mut second)?;
     expect_both_regained(&rt, alloc, &mut first)?;
@@ -173,13 +193,12 @@ fn cells_spread_between_ranks(rt: HostRuntime) -> Result<(), Fail> {
 #[test]
 fn a_setup_tells_what_the_ranks_do(rt: HostRuntime) -> Result<(), Fail> {
     let (_, setup) = opened(&rt, rt.alloc())?;
-    let epoch = Epoch::first(2, 2, 1);
     assert_eq!(rt; Forest::ranks(&setup), 2);
     assert_eq!(rt; Forest::steps(&setup), 2);
     assert_eq!(rt; Forest::shift(&setup), 0);
     assert_eq!(rt; Forest::snapshot(&setup), 1);
     assert_eq!(rt; Forest::target(&setup, 1), 2);
-    assert_eq!(rt; Forest::rounds(&setup, epoch), 2);
+    assert_eq!(rt; Forest::rounds(&setup, first_epoch()), 2);
     assert_eq!(rt; Forest::dies(&setup, 0), None);
     assert_eq!(rt; Forest::dies(&setup, 1), Some(17));
     Ok(())
