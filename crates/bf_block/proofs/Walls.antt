@@ -1,9 +1,7 @@
 -- The walls around a root hold the samples beyond its faces.
-use Rattle.std.proofs.Common.{◌≡◌, ℕ, ◌+◌, ◌-◌, ◌*◌, ◌/◌, ◌%◌, ◌<◌, Bool, true, cond, eqb, List, Some, inl, refl, sym, ◌∙◌, ap, subst, arith}
+use Rattle.std.proofs.Common.{◌≡◌, ℕ, ◌+◌, ◌-◌, ◌/◌, ◌%◌, ◌<◌, true, List, Some, inl, refl, sym, ◌∙◌, ap, subst, arith}
 use Rattle.bf_id.specs.declared.shape.Shape.{Shape}
-use Rattle.bf_id.specs.declared.face.Face.{Face}
 use Rattle.bf_id.specs.declared.face.Face.TheVariants.{XLow, XHigh, YLow, YHigh, ZLow, ZHigh}
-use Rattle.bf_id.specs.Face.{number_of}
 use Rattle.bf_id.specs.Shape.{IsShape, root_count}
 use Rattle.bf_id.specs.Id.{root_id}
 use Rattle.bf_id.specs.Cube.{Voxel}
@@ -15,11 +13,11 @@ use Rattle.bf_case.specs.Around.{grid_at, walls_around, IsAround}
 use Rattle.bf_case.specs.Map.{Leaf, cells_at}
 use Rattle.bf_case.specs.Model.{model, model_at}
 use Rattle.bf_case.specs.Sample.{cell_corner, sample}
-use Rattle.bf_case.proofs.Axis.{start_of, choose-same}
+use Rattle.bf_case.proofs.Axis.{choose-same}
 use Rattle.bf_case.proofs.RootModel.{samples_of_model, cells_of_root, around_is_root, walls_same}
 use Rattle.bf_case.proofs.RootSteps.{SamplesRoots, InRoot, index_of, corner_at, own_at, walls_by_tests, walls_are_by_tests, x_below_is, x_above_is, y_below_is, y_above_is, z_below_is, z_above_is}
 use Rattle.bf_block.specs.Runs.{CanRun}
-use Rattle.bf_block.specs.Around.{HoldSamples, across, face_corner}
+use Rattle.bf_block.specs.Around.{HoldSamples, across}
 use Rattle.bf_block.proofs.Steps.{model_regridded}
 
 module _ (shape : Shape) (leaves : List Leaf) (x y z : ℕ) where

@@ -1,7 +1,7 @@
 -- The blocks of a finished run's parcels.
-use Rattle.std.proofs.Common.{◌≡◌, ℕ, suc, ◌+◌, Bool, List, [], ◌∷◌, ◌++◌, length, map, flat_map, Contains, refl, ap, sym, ◌∙◌, arith, All}
+use Rattle.std.proofs.Common.{◌≡◌, ℕ, ◌+◌, Bool, List, [], ◌∷◌, ◌++◌, length, flat_map, Contains, refl, ap, sym, ◌∙◌, arith}
 use Rattle.std.specs.Prelude.{Some, IsPermutation}
-use Rattle.std.specs.List.{count_by, sum_by, zip}
+use Rattle.std.specs.List.{count_by, sum_by}
 use Rattle.std.proofs.lemmas.List.Elements.{All-weaker, All-contains, All-contains_itself}
 use Rattle.std.proofs.lemmas.List.Sorted.{Contains-permutation, sum_by-IsPermutation, IsPermutation-sym}
 use Rattle.std.proofs.lemmas.List.Sums.{sum_by-cons}
