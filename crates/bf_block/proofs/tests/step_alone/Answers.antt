@@ -1,11 +1,11 @@
-use Rattle.std.proofs.Common.{◌≡◌, ℕ, ◌<◌, true, Some, List, ap, subst, sym, ◌∙◌, arith}
+use Rattle.std.proofs.Common.{◌≡◌, true, Some, List, ap, subst, sym, ◌∙◌, arith}
 use Rattle.bf_id.specs.declared.shape.Shape.{Shape}
 use Rattle.bf_id.specs.Id.{BlockId, root_id}
 use Rattle.bf_id.specs.Shape.{root_count}
 use Rattle.bf_cells.specs.Grid.{Grid}
 use Rattle.bf_cells.specs.Shell.{Walls}
 use Rattle.bf_case.specs.declared.case.Case.{Case}
-use Rattle.bf_case.specs.Around.{walls_around, IsAround}
+use Rattle.bf_case.specs.Around.{walls_around}
 use Rattle.bf_case.specs.Map.{Leaf, cells_at}
 use Rattle.bf_case.specs.Model.{model, model_at}
 use Rattle.bf_case.proofs.RootModel.{around_is_root}
