@@ -1,14 +1,7 @@
 -- Steps along one axis, from a cell of a block to the next one, which may lie beyond the block's wall.
 use Rattle.std.proofs.Common.{◌≡◌, ℕ, zero, suc, ◌+◌, ◌-◌, ◌*◌, ◌<◌, ◌≤◌, ◌≢◌, cond, eqb, sym, ◌∙◌, ap, arith, inl, inr}
 use Rattle.std.proofs.lemmas.Bool.{cases_order}
-use Rattle.std.proofs.lemmas.Bool.Decides.{eqb_tells}
-
--- the choice by a test of two equal numbers, and of two others
-choose-same : {X : Type 0} (a b : ℕ) (x y : X) → a ≡ b → cond (eqb a b) x y ≡ x
-choose-same a b x y e = elim (eqb_tells a b) [ inl p ↦ ap (λ t. cond t x y) p.0 | inr p ↦ absurd (p.1 e) ]
-
-choose-other : {X : Type 0} (a b : ℕ) (x y : X) → a ≢ b → cond (eqb a b) x y ≡ y
-choose-other a b x y ne = elim (eqb_tells a b) [ inl p ↦ absurd (ne p.1) | inr p ↦ ap (λ t. cond t x y) p.0 ]
+use Rattle.bf_case.proofs.Axis.{choose-same, choose-other}
 
 -- only the first cell begins at 0
 not_first : (start scale x : ℕ) → 0 < scale → start + suc x * scale ≢ 0

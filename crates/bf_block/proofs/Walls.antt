@@ -17,7 +17,7 @@ use Rattle.bf_case.proofs.Axis.{choose-same}
 use Rattle.bf_case.proofs.RootModel.{samples_of_model, cells_of_root, around_is_root, walls_same}
 use Rattle.bf_case.proofs.RootSteps.{SamplesRoots, InRoot, index_of, corner_at, own_at, walls_by_tests, walls_are_by_tests, x_below_is, x_above_is, y_below_is, y_above_is, z_below_is, z_above_is}
 use Rattle.bf_block.specs.Runs.{CanRun}
-use Rattle.bf_block.specs.Around.{HoldSamples, across}
+use Rattle.bf_block.specs.Around.{HoldSamples, value_across}
 use Rattle.bf_block.proofs.Steps.{model_regridded}
 
 module _ (shape : Shape) (leaves : List Leaf) (x y z : ℕ) where
@@ -40,37 +40,37 @@ module _ (shape : Shape) (leaves : List Leaf) (x y z : ℕ) where
   unfolding wall_of face_cell
   hold_at roots x_in y_in z_in XLow a b a_in b_in =
       let inside : InRoot shape own.side x y z 0 a b = record { x_in = x_in; y_in = y_in; z_in = z_in; u_in = omega arith; v_in = a_in; w_in = b_in } in
-      subst (λ (p : Voxel). wall_at walls 0 a b ≡ across shape own.side at 16 XLow p (cell_at own 0 a b)) (sym (corner_is x_in y_in 0 a b))
+      subst (λ (p : Voxel). wall_at walls 0 a b ≡ value_across shape own.side at 16 XLow p (cell_at own 0 a b)) (sym (corner_is x_in y_in 0 a b))
       (sym (x_below_is shape own.side leaves roots x y z 0 a b inside)
-      ∙ ap (across shape own.side at 16 XLow (corner_at own.side x y z 0 a b)) (own_at shape own.side leaves roots x y z 0 a b inside))
+      ∙ ap (value_across shape own.side at 16 XLow (corner_at own.side x y z 0 a b)) (own_at shape own.side leaves roots x y z 0 a b inside))
   hold_at roots x_in y_in z_in XHigh a b a_in b_in =
       let last = own.side - 1 in
       let inside : InRoot shape own.side x y z last a b = record { x_in = x_in; y_in = y_in; z_in = z_in; u_in = omega arith; v_in = a_in; w_in = b_in } in
-      subst (λ (p : Voxel). wall_at walls 1 a b ≡ across shape own.side at 16 XHigh p (cell_at own last a b)) (sym (corner_is x_in y_in last a b))
+      subst (λ (p : Voxel). wall_at walls 1 a b ≡ value_across shape own.side at 16 XHigh p (cell_at own last a b)) (sym (corner_is x_in y_in last a b))
       (sym (x_above_is shape own.side leaves roots x y z last a b inside ∙ choose-same (last + 1) own.side _ _ (omega arith))
-      ∙ ap (across shape own.side at 16 XHigh (corner_at own.side x y z last a b)) (own_at shape own.side leaves roots x y z last a b inside))
+      ∙ ap (value_across shape own.side at 16 XHigh (corner_at own.side x y z last a b)) (own_at shape own.side leaves roots x y z last a b inside))
   hold_at roots x_in y_in z_in YLow a b a_in b_in =
       let inside : InRoot shape own.side x y z a 0 b = record { x_in = x_in; y_in = y_in; z_in = z_in; u_in = a_in; v_in = omega arith; w_in = b_in } in
-      subst (λ (p : Voxel). wall_at walls 2 a b ≡ across shape own.side at 16 YLow p (cell_at own a 0 b)) (sym (corner_is x_in y_in a 0 b))
+      subst (λ (p : Voxel). wall_at walls 2 a b ≡ value_across shape own.side at 16 YLow p (cell_at own a 0 b)) (sym (corner_is x_in y_in a 0 b))
       (sym (y_below_is shape own.side leaves roots x y z a 0 b inside)
-      ∙ ap (across shape own.side at 16 YLow (corner_at own.side x y z a 0 b)) (own_at shape own.side leaves roots x y z a 0 b inside))
+      ∙ ap (value_across shape own.side at 16 YLow (corner_at own.side x y z a 0 b)) (own_at shape own.side leaves roots x y z a 0 b inside))
   hold_at roots x_in y_in z_in YHigh a b a_in b_in =
       let last = own.side - 1 in
       let inside : InRoot shape own.side x y z a last b = record { x_in = x_in; y_in = y_in; z_in = z_in; u_in = a_in; v_in = omega arith; w_in = b_in } in
-      subst (λ (p : Voxel). wall_at walls 3 a b ≡ across shape own.side at 16 YHigh p (cell_at own a last b)) (sym (corner_is x_in y_in a last b))
+      subst (λ (p : Voxel). wall_at walls 3 a b ≡ value_across shape own.side at 16 YHigh p (cell_at own a last b)) (sym (corner_is x_in y_in a last b))
       (sym (y_above_is shape own.side leaves roots x y z a last b inside ∙ choose-same (last + 1) own.side _ _ (omega arith))
-      ∙ ap (across shape own.side at 16 YHigh (corner_at own.side x y z a last b)) (own_at shape own.side leaves roots x y z a last b inside))
+      ∙ ap (value_across shape own.side at 16 YHigh (corner_at own.side x y z a last b)) (own_at shape own.side leaves roots x y z a last b inside))
   hold_at roots x_in y_in z_in ZLow a b a_in b_in =
       let inside : InRoot shape own.side x y z a b 0 = record { x_in = x_in; y_in = y_in; z_in = z_in; u_in = a_in; v_in = b_in; w_in = omega arith } in
-      subst (λ (p : Voxel). wall_at walls 4 a b ≡ across shape own.side at 16 ZLow p (cell_at own a b 0)) (sym (corner_is x_in y_in a b 0))
+      subst (λ (p : Voxel). wall_at walls 4 a b ≡ value_across shape own.side at 16 ZLow p (cell_at own a b 0)) (sym (corner_is x_in y_in a b 0))
       (sym (z_below_is shape own.side leaves roots x y z a b 0 inside)
-      ∙ ap (across shape own.side at 16 ZLow (corner_at own.side x y z a b 0)) (own_at shape own.side leaves roots x y z a b 0 inside))
+      ∙ ap (value_across shape own.side at 16 ZLow (corner_at own.side x y z a b 0)) (own_at shape own.side leaves roots x y z a b 0 inside))
   hold_at roots x_in y_in z_in ZHigh a b a_in b_in =
       let last = own.side - 1 in
       let inside : InRoot shape own.side x y z a b last = record { x_in = x_in; y_in = y_in; z_in = z_in; u_in = a_in; v_in = b_in; w_in = omega arith } in
-      subst (λ (p : Voxel). wall_at walls 5 a b ≡ across shape own.side at 16 ZHigh p (cell_at own a b last)) (sym (corner_is x_in y_in a b last))
+      subst (λ (p : Voxel). wall_at walls 5 a b ≡ value_across shape own.side at 16 ZHigh p (cell_at own a b last)) (sym (corner_is x_in y_in a b last))
       (sym (z_above_is shape own.side leaves roots x y z a b last inside ∙ choose-same (last + 1) own.side _ _ (omega arith))
-      ∙ ap (across shape own.side at 16 ZHigh (corner_at own.side x y z a b last)) (own_at shape own.side leaves roots x y z a b last inside))
+      ∙ ap (value_across shape own.side at 16 ZHigh (corner_at own.side x y z a b last)) (own_at shape own.side leaves roots x y z a b last inside))
 
 -- the same for a root by its number
 hold_of_root : (shape : Shape) (side : ℕ) (leaves : List Leaf) (k : ℕ) → IsShape shape → SamplesRoots shape side leaves → k < root_count shape

@@ -68,6 +68,7 @@ impl Block {
     {
         &self.cells
     }
+
     /// The same leaf after its time's regrid, which kept it.
     pub fn kept(self) -> Block
         requires fresh { IsFalse self.point.regridded }

@@ -9,10 +9,8 @@ use Rattle.bf_program.specs.Lockstep.{lockstep}
 use Rattle.bf_program.specs.Points.{IsFinishing}
 use Rattle.bf_block.specs.declared.setup.Setup.{Setup}
 use Rattle.bf_block.specs.Setup.{case_of}
-use Rattle.bf_block.specs.Block.{BlockValue}
 use Rattle.bf_parts.specs.Seats.{seat_of}
 use Rattle.bf_forest.specs.declared.local.ForestLocal.{ForestLocal}
-use Rattle.bf_forest.specs.declared.stage.Stage.{Stage}
 use Rattle.bf_forest.specs.declared.stage.Stage.TheVariants.{Step, Snapshot}
 use Rattle.bf_forest.specs.Goods.{IsBlockAt, IsGood}
 use Rattle.bf_forest.specs.Hearing.{blocks_at, with_heard, step_heard}

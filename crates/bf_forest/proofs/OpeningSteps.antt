@@ -1,18 +1,16 @@
 -- The blocks and locals of the opening, as they are made.
-use Rattle.std.proofs.Common.{◌≡◌, ◌≢◌, ℕ, ◌+◌, ◌<◌, ◌≤◌, Bool, true, false, cond, List, [], ◌∷◌, ◌++◌, length, map, get_or, refl, sym, ap, ◌∙◌, arith}
+use Rattle.std.proofs.Common.{◌≡◌, ◌≢◌, ℕ, ◌+◌, ◌<◌, Bool, true, false, cond, List, [], ◌∷◌, ◌++◌, length, map, get_or, refl, sym, ap, ◌∙◌, arith}
 use Rattle.std.specs.Prelude.{IsTrue, filter, ◌==◌}
 use Rattle.std.specs.List.{range_with_len}
 use Rattle.std.proofs.lemmas.Bool.Decides.{nat_tests}
 use Rattle.std.proofs.lemmas.List.{map-append, append-nil}
-use Rattle.std.proofs.lemmas.List.Elements.{filter-append}
 use Rattle.std.proofs.lemmas.List.FromFn.{length-map-range_with_len, get_or-map-range_with_len, map-range_with_len_more, filter_of_map_range_with_len_more}
 use Rattle.bf_buddy.specs.Members.{is_member}
 use Rattle.bf_case.specs.declared.case.Case.{Case}
 use Rattle.bf_case.specs.Case.{first_rank_of}
 use Rattle.bf_block.specs.Block.{BlockValue, initial_block}
 use Rattle.bf_parts.specs.Seats.{range_has, range_within}
-use Rattle.bf_forest.specs.declared.local.ForestLocal.{ForestLocal}
-use Rattle.bf_forest.specs.Meanings.{first_blocks, opened}
+use Rattle.bf_forest.specs.Meanings.{first_blocks}
 
 -- the roots below one that begin at a rank
 abbrev pub roots_at : Case → (rank root : ℕ) → List BlockValue

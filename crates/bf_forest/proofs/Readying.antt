@@ -1,12 +1,12 @@
 -- What a rank that is ready to step its blocks hands to the steps.
-use Rattle.std.proofs.Common.{◌≡◌, ℕ, ◌+◌, ◌<◌, ◌≤◌, true, false, Some, List, [], ◌∷◌, ◌++◌, length, map, take, get_or, Contains, All, refl, sym, ap, subst, ◌∙◌, arith}
+use Rattle.std.proofs.Common.{◌≡◌, ℕ, ◌+◌, ◌<◌, Some, List, [], ◌∷◌, ◌++◌, length, map, take, get_or, Contains, All, refl, sym, ap, subst, ◌∙◌, arith}
 use Rattle.std.proofs.Math.Seq.{take-append_seam}
 use Rattle.std.proofs.lemmas.List.{length-map, length-append, get_or-map, map-append}
 use Rattle.std.proofs.lemmas.Simd.{map-map}
-use Rattle.std.proofs.lemmas.List.Elements.{All-append, All-contains, All-get_or, All-head, All-map, All-tail, All-take, All-weaker, at_from_Contains}
-use Rattle.bf_id.specs.Id.{BlockId, root_id}
+use Rattle.std.proofs.lemmas.List.Elements.{All-append, All-get_or, All-head, All-map, All-tail, All-take, All-weaker, at_from_Contains}
+use Rattle.bf_id.specs.Id.{root_id}
 use Rattle.bf_id.specs.Shape.{root_count}
-use Rattle.bf_cells.specs.Grid.{Grid, grid_with}
+use Rattle.bf_cells.specs.Grid.{grid_with}
 use Rattle.bf_case.specs.declared.case.Case.{Case}
 use Rattle.bf_case.specs.Map.{Leaf, cells_at, ids_of}
 use Rattle.bf_case.specs.Model.{model}
@@ -15,7 +15,7 @@ use Rattle.bf_case.proofs.ListLemmas.{Contains-map}
 use Rattle.bf_case.proofs.LookupLemmas.{leaf_from_cells_at}
 use Rattle.bf_case.proofs.RootModel.{model_next}
 use Rattle.bf_block.specs.declared.point.Point.{Point}
-use Rattle.bf_block.specs.Block.{BlockValue, IsModels, map_at, before_regrid, after_regrid, kept_block}
+use Rattle.bf_block.specs.Block.{BlockValue, map_at, after_regrid, kept_block}
 use Rattle.bf_block.specs.Runs.{CanRun}
 use Rattle.bf_block.proofs.Steps.{model_regridded}
 use Rattle.bf_forest.specs.declared.known.Known.{Known}
@@ -25,7 +25,7 @@ use Rattle.bf_forest.specs.Goods.{IsBlockAt}
 use Rattle.bf_forest.specs.Known.{is_known, known_grid, KnowsModel, CanAdvance}
 use Rattle.bf_forest.specs.Places.{ArePlaces, roots_in}
 use Rattle.bf_forest.specs.Ready.{CanBeKept, IsKeptAt, IsReady, next_block}
-use Rattle.bf_forest.specs.StepLaws.{HasRoots, block_root, model_cells, gathered_is_model}
+use Rattle.bf_forest.specs.StepLaws.{block_root, model_cells, gathered_is_model}
 use Rattle.bf_forest.proofs.PlaceSteps.{place_of_root, length-roots_in}
 
 all_first : (P : BlockValue → Type 0) (xs ys : List BlockValue) → All P (xs ++ ys) → All P xs

@@ -1,8 +1,7 @@
 -- A rank's blocks, stepped between the walls that its known blocks make.
-use Rattle.std.proofs.Common.{◌≡◌, ℕ, ◌+◌, ◌<◌, ◌≤◌, true, Some, inl, List, [], ◌∷◌, ◌++◌, length, map, take, get_or, All, refl, sym, ap, subst, ◌∙◌, arith}
+use Rattle.std.proofs.Common.{◌≡◌, ℕ, ◌+◌, ◌<◌, ◌≤◌, true, Some, List, [], ◌∷◌, ◌++◌, length, map, take, get_or, All, refl, sym, ap, subst, ◌∙◌, arith}
 use Rattle.std.proofs.lemmas.List.{take_more, get_or-take, map-append, length-take-le}
 use Rattle.std.proofs.lemmas.List.Elements.{All-contains, All-get_or}
-use Rattle.bf_id.specs.declared.shape.Shape.{Shape}
 use Rattle.bf_id.specs.Id.{BlockId, root_id}
 use Rattle.bf_id.specs.Shape.{root_count}
 use Rattle.bf_cells.specs.Grid.{Grid}
@@ -22,7 +21,6 @@ use Rattle.bf_block.proofs.Steps.{model_regridded}
 use Rattle.bf_block.proofs.Walls.{walls_hold}
 use Rattle.bf_forest.specs.declared.known.Known.{Known}
 use Rattle.bf_forest.specs.Gathered.{cells_or, advanced}
-use Rattle.bf_forest.specs.Goods.{IsBlockAt}
 use Rattle.bf_forest.specs.Known.{is_known, known_grid, KnowsModel}
 use Rattle.bf_forest.specs.Ready.{IsKeptAt, next_block}
 use Rattle.bf_forest.specs.StepLaws.{block_root}

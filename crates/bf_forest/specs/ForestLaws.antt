@@ -1,5 +1,5 @@
 -- The forest keeps the laws of round programs.
-use Rattle.std.proofs.Common.{◌≡◌, ℕ, ◌+◌, ◌-◌, ◌^◌, ◌<◌, ◌≤◌, min, arith}
+use Rattle.std.proofs.Common.{ℕ, ◌+◌, ◌-◌, ◌^◌, ◌<◌, min, arith}
 use Rattle.bf_program.specs.declared.epoch.Epoch.{Epoch}
 use Rattle.bf_program.specs.Laws.{Laws, KeepsLimits, KeepsGood}
 use Rattle.bf_block.specs.declared.setup.Setup.{Setup}

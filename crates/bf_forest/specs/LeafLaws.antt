@@ -1,12 +1,9 @@
 -- The blocks of good locals are together the leaves of the model.
-use Rattle.std.proofs.Common.{◌≡◌, ℕ, ◌+◌, ◌<◌, Bool, true, false, cond, List, [], ◌∷◌, length, get_or, flat_map, refl, ap, sym, ◌∙◌, arith, All, subst}
+use Rattle.std.proofs.Common.{◌≡◌, ℕ, ◌+◌, ◌<◌, true, List, [], ◌∷◌, length, get_or, flat_map, refl, ap, sym, ◌∙◌, arith, All, subst}
 use Rattle.std.specs.Prelude.{◌==◌, nat_lt, Some}
-use Rattle.std.specs.List.{AllZip, count_by}
 use Rattle.std.proofs.lemmas.Bool.{eqb-true, eq-eqb}
 use Rattle.std.proofs.lemmas.Bool.Decides.{nat_tests}
 use Rattle.std.proofs.lemmas.List.Elements.{All-head, All-tail, All-weaker}
-use Rattle.std.proofs.lemmas.List.{length-map}
-use Rattle.std.proofs.lemmas.List.FromFn.{length-map-range_with_len}
 use Rattle.bf_id.specs.Shape.{root_count}
 use Rattle.bf_id.specs.Id.{BlockId, root_id, id_eq}
 use Rattle.bf_id.proofs.Boxes.{id_eq_is_equal}
@@ -29,7 +26,7 @@ use Rattle.bf_forest.specs.Goods.{IsBlockAt, HasModels, IsGood}
 use Rattle.bf_forest.specs.Leaves.{times_among, AreLeaves}
 use Rattle.bf_forest.specs.Meanings.{forest_look}
 use Rattle.bf_forest.specs.StageLaws.{time_end}
-use Rattle.bf_forest.specs.Stages.{span, rounds_of, time_at}
+use Rattle.bf_forest.specs.Stages.{rounds_of, time_at}
 use Rattle.bf_forest.specs.StepLaws.{model_cells, block_root}
 
 -- a root's id is told by its number

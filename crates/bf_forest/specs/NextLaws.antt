@@ -2,12 +2,10 @@
 use Rattle.std.proofs.Common.{◌≡◌, ℕ, ◌+◌, ◌<◌, ◌≤◌, Bool, true, false, List, [], ◌++◌, flat_map, Contains, arith, refl, ap, sym, ◌∙◌, subst, All}
 use Rattle.std.specs.Prelude.{◌==◌, ◌&&◌, not, nat_lt, Some}
 use Rattle.std.specs.List.{AllZip}
-use Rattle.std.specs.List.Sorted.{IsStrictlyIncreasing}
 use Rattle.std.proofs.lemmas.Bool.{eqb-true, eqb-false}
 use Rattle.std.proofs.lemmas.Bool.Decides.{nat_tests}
 use Rattle.std.proofs.lemmas.List.Elements.{All-nil, All-append}
 use Rattle.bf_id.specs.Shape.{root_count}
-use Rattle.bf_case.specs.declared.case.Case.{Case}
 use Rattle.bf_buddy.specs.Members.{is_member, without}
 use Rattle.bf_buddy.specs.Buddy.{predecessor_of}
 use Rattle.bf_program.specs.declared.epoch.Epoch.{Epoch}
@@ -18,21 +16,21 @@ use Rattle.bf_block.specs.Block.{BlockValue}
 use Rattle.bf_parts.specs.declared.side.Side.{Side}
 use Rattle.bf_parts.specs.Counts.{held_mapped}
 use Rattle.bf_parts.specs.Seats.{seat_of, seat_found, seats_changed, seats_weaker, member_filter}
-use Rattle.bf_parts.specs.Shares.{AreOf, AreCopies, IsMine, IsShared, IsSide}
+use Rattle.bf_parts.specs.Shares.{AreOf, AreCopies, IsMine}
 use Rattle.bf_parts.specs.SideLaws.{predecessor_member, copies_none, copies_of}
-use Rattle.bf_parts.specs.Sides.{bare, source_of}
+use Rattle.bf_parts.specs.Sides.{source_of}
 use Rattle.bf_forest.specs.declared.local.ForestLocal.{ForestLocal}
 use Rattle.bf_forest.specs.declared.stage.Stage.{Stage}
 use Rattle.bf_forest.specs.declared.stage.Stage.TheVariants.{Step, Snapshot}
-use Rattle.bf_forest.specs.Gathered.{stepped_among, gathered, advanced}
+use Rattle.bf_forest.specs.Gathered.{stepped_among, advanced}
 use Rattle.bf_forest.specs.Goods.{IsBlockAt, HasModels, IsGood}
-use Rattle.bf_forest.specs.Hearing.{blocks_at, with_heard, with_other, step_heard, Follows, nothing_heard, part_heard}
+use Rattle.bf_forest.specs.Hearing.{blocks_at, with_other, step_heard, Follows, nothing_heard, part_heard}
 use Rattle.bf_forest.specs.Meanings.{forest, forest_look, ended}
 use Rattle.bf_parts.specs.Hearing.{source_is}
 use Rattle.bf_parts.specs.PlainRounds.{hears_all, plain_round}
 use Rattle.bf_forest.specs.SeatLaws.{seats_both, seats_all, all_flat_map, all_at, key_among}
 use Rattle.bf_forest.specs.StageLaws.{stage_step, stage_snapshot, time_next, time_last, time_end}
-use Rattle.bf_forest.specs.Stages.{span, rounds_of, stage_of, time_at}
+use Rattle.bf_forest.specs.Stages.{span, rounds_of, time_at}
 use Rattle.bf_forest.specs.StepLaws.{HasRoots, stepped_are}
 
 -- a member's local at the beginning of a round: its blocks and sides are as they are to be, and are the model's

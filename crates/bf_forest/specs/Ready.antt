@@ -1,9 +1,7 @@
 -- What a rank knows when it steps its blocks.
-use Rattle.std.specs.Prelude.{◌≡◌, ℕ, ◌+◌, ◌<◌, ◌++◌, List, Some, All, Contains, IsFalse}
-use Rattle.bf_id.specs.Id.{root_id}
-use Rattle.bf_id.specs.Shape.{root_count}
+use Rattle.std.specs.Prelude.{◌≡◌, ℕ, ◌+◌, ◌<◌, ◌++◌, All, Contains, IsFalse}
 use Rattle.bf_case.specs.declared.case.Case.{Case}
-use Rattle.bf_case.specs.Map.{cells_at, ids_of}
+use Rattle.bf_case.specs.Map.{ids_of}
 use Rattle.bf_case.specs.Model.{model}
 use Rattle.bf_block.specs.Block.{BlockValue, IsModels, after_regrid, map_at}
 use Rattle.bf_forest.specs.declared.local.ForestLocal.{ForestLocal}

@@ -1,10 +1,8 @@
 -- Blocks that are the model's make its map together, and a step leads to its next map.
-use Rattle.std.proofs.Common.{◌≡◌, ℕ, suc, ◌+◌, ◌<◌, true, false, List, [], ◌∷◌, length, get_or, map, Some, ◌⊎◌, inl, inr, Contains, refl, sym, ap, subst, ◌∙◌, arith, All}
-use Rattle.std.specs.List.{range_with_len}
+use Rattle.std.proofs.Common.{◌≡◌, ℕ, ◌+◌, ◌<◌, true, false, List, [], ◌∷◌, get_or, map, Some, ◌⊎◌, inl, inr, Contains, refl, sym, ap, subst, ◌∙◌, All}
 use Rattle.std.proofs.lemmas.Bool.{cases_Bool}
-use Rattle.std.proofs.lemmas.List.{length-map, get_or-map}
-use Rattle.std.proofs.lemmas.List.Elements.{All-map, All-weaker, All-contains, Contains-get_or}
-use Rattle.std.proofs.lemmas.List.FromFn.{length-map-range_with_len, get_or-map-range_with_len, fill_by_all}
+use Rattle.std.proofs.lemmas.List.Elements.{All-map, All-weaker, All-contains}
+use Rattle.std.proofs.lemmas.List.FromFn.{fill_by_all}
 use Rattle.bf_id.specs.Shape.{root_count}
 use Rattle.bf_id.specs.Id.{BlockId, level_of, root_id, id_eq}
 use Rattle.bf_id.proofs.Boxes.{id_eq_is_equal}
@@ -12,11 +10,11 @@ use Rattle.bf_id.proofs.Tilings.{Contains-none, Contains-cons_cases, Contains-fr
 use Rattle.bf_cells.specs.Grid.{Grid, grid_with, table}
 use Rattle.bf_case.specs.declared.case.Case.{Case}
 use Rattle.bf_case.specs.Map.{Leaf, ids_of, cells_at}
-use Rattle.bf_case.specs.Model.{root_ids, model}
+use Rattle.bf_case.specs.Model.{model}
 use Rattle.bf_case.specs.Sample.{cell_corner}
 use Rattle.bf_case.specs.Stencil.{stencil, stepped_value}
 use Rattle.bf_case.proofs.ListLemmas.{Contains-map}
-use Rattle.bf_case.proofs.LookupLemmas.{cells_at-leaf, leaf_from_cells_at, cells_at-stencil}
+use Rattle.bf_case.proofs.LookupLemmas.{leaf_from_cells_at, cells_at-stencil}
 use Rattle.bf_case.proofs.MapLemmas.{IsRootMap-model}
 use Rattle.bf_case.proofs.RootModel.{roots_of_model, model_next, cells_of_root}
 use Rattle.bf_case.proofs.RootSteps.{roots_are}

@@ -1,6 +1,6 @@
-use Rattle.std.proofs.Common.{◌≡◌, ◌<◌, ◌∙◌, length, arith, subst, sym, get_or}
-use Rattle.bf_forest.specs.Places.{ArePlaces, roots_in}
-use Rattle.bf_forest.proofs.PlaceSteps.{places_none, places_more, root_is, root_below, length-roots_in}
+use Rattle.std.proofs.Common.{arith}
+use Rattle.bf_forest.specs.Places.{roots_in}
+use Rattle.bf_forest.proofs.PlaceSteps.{places_more, root_is, root_below, length-roots_in}
 use Rattle.bf_forest.proofs.known.places_of.Goals as goal
 
 pub index_mut-requires : goal.index_mut-requires

@@ -1,4 +1,3 @@
-use Rattle.std.proofs.Common.{◌≡◌}
 use Rattle.bf_forest.specs.Places.{ArePlaces, roots_in}
 use Rattle.bf_forest.proofs.known.places_of.Given as goal
 

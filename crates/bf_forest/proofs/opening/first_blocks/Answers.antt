@@ -1,4 +1,4 @@
-use Rattle.std.proofs.Common.{◌≡◌, ◌∙◌, ap, arith, map, subst}
+use Rattle.std.proofs.Common.{◌≡◌, ◌∙◌, ap, arith, List}
 use Rattle.std.proofs.Common.{Vec, Global}
 use Rattle.bf_block.specs.Block.{BlockValue, initial_block}
 use Rattle.bf_block.specs.Setup.{case_of}
@@ -8,15 +8,18 @@ use Rattle.bf_forest.proofs.OpeningSteps.{roots_at, root_taken, root_passed}
 use Rattle.bf_forest.proofs.opening.first_blocks.Goals as goal
 use Rattle.bf_forest.proofs.opening.first_blocks.Goals.{then-first_rank-rank+in_ok-initial+in_ok-push, else-first_rank-rank}
 
+joined : {a b c d : List BlockValue} → a ≡ b → b ≡ c → c ≡ d → a ≡ d
+joined p q r = p ∙ (q ∙ r)
+
 pub loop-root-preserved : goal.loop-root-preserved
 loop-root-preserved c =
     let case = case_of c.args.setup.now in
     let root = c.loop-root.root in
     elim c.if-first_rank-rank.branch [
       | then-first_rank-rank+in_ok-initial+in_ok-push w ↦
-          ap (λ (v : Vec BlockValue Global). v.items) w.blocks-is ∙ w.in_ok-push.ensures.items
-          ∙ root_taken case c.args.rank root c.first_rank.result c.loop-root.blocks.items w.in_ok-initial.field-0 c.first_rank.ensures w.if-first_rank-rank.true
-          (w.in_ok-initial.ensures ∙ ap (λ (k : Case). initial_block k root) c.requires) c.loop-root.invariant
+          joined (ap (λ (v : Vec BlockValue Global). v.items) w.blocks-is) w.in_ok-push.ensures.items
+          (root_taken case c.args.rank root c.first_rank.result c.loop-root.blocks.items w.in_ok-initial.field-0 c.first_rank.ensures w.if-first_rank-rank.true
+          (w.in_ok-initial.ensures ∙ ap (λ (k : Case). initial_block k root) c.requires) c.loop-root.invariant)
       | else-first_rank-rank w ↦
           ap (λ (v : Vec BlockValue Global). v.items) w.blocks-is
           ∙ root_passed case c.args.rank root c.first_rank.result c.loop-root.blocks.items c.first_rank.ensures w.if-first_rank-rank.false c.loop-root.invariant

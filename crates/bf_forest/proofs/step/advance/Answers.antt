@@ -1,9 +1,7 @@
-use Rattle.std.proofs.Common.{◌≡◌, ◌∙◌, ◌+◌, ◌<◌, sym, ap, subst, arith}
+use Rattle.std.proofs.Common.{◌≡◌, ◌∙◌, sym, ap, subst, arith}
 use Rattle.bf_id.specs.declared.shape.Shape.{Shape}
-use Rattle.bf_id.specs.Shape.{root_count}
 use Rattle.bf_case.specs.declared.case.Case.{Case}
 use Rattle.bf_case.specs.Around.{IsAround, walls_around}
-use Rattle.bf_block.specs.Block.{BlockValue}
 use Rattle.bf_block.specs.Setup.{case_of, every_setup_runs}
 use Rattle.bf_forest.specs.Known.{known_grid}
 use Rattle.bf_forest.specs.Ready.{IsKeptAt, next_block}

@@ -1,7 +1,6 @@
-use Rattle.std.proofs.Common.{◌≡◌, ◌∙◌, ◌++◌, ap, map}
-use Rattle.bf_block.specs.Block.{kept_block}
+use Rattle.std.proofs.Common.{◌∙◌}
 use Rattle.bf_block.specs.Setup.{case_of, every_setup_runs}
-use Rattle.bf_forest.proofs.Readying.{all_blocks, all_kept, roots_below, can_advance, all_stepped, same_local}
+use Rattle.bf_forest.proofs.Readying.{all_kept, roots_below, can_advance, all_stepped, same_local}
 use Rattle.bf_forest.proofs.step.step.Goals as goal
 
 pub kept_first-requires : goal.kept_first-requires

@@ -1,4 +1,4 @@
-use Rattle.std.proofs.Common.{◌≡◌, ℕ, zero, suc, refl, Some, ◌+◌, ◌<◌, ◌≤◌, true, ◌⊎◌, inl, inr, List, [], ◌++◌, Contains, All, ap, subst, sym, ◌∙◌, arith}
+use Rattle.std.proofs.Common.{◌≡◌, ℕ, zero, suc, refl, ◌<◌, true, ◌⊎◌, inl, inr, List, ◌++◌, Contains, All, ap, subst, sym, ◌∙◌, arith}
 use Rattle.std.specs.Prelude.{◌==◌}
 use Rattle.std.specs.List.{range_with_len}
 use Rattle.std.proofs.lemmas.Bool.Decides.{nat_tests}
@@ -12,7 +12,6 @@ use Rattle.bf_block.specs.Setup.{case_of, every_setup_runs}
 use Rattle.bf_parts.specs.KeyLaws.{keys_made}
 use Rattle.bf_forest.specs.declared.local.ForestLocal.{ForestLocal}
 use Rattle.bf_forest.specs.declared.message.ForestMessage.{ForestMessage}
-use Rattle.bf_forest.specs.declared.message.ForestMessage.TheVariants.{Step as StepMessage}
 use Rattle.bf_forest.specs.declared.stage.Stage.TheVariants.{Step}
 use Rattle.bf_forest.specs.GoodLaws.{has_opening, first_are}
 use Rattle.bf_forest.specs.Goods.{IsBlockAt}
