@@ -1,5 +1,5 @@
 //! What comes of a case that is run by its ranks, each law the contract of a call that does nothing.
-ghost use Rattle.std.specs.Prelude.{◌≡◌, ◌⊎◌, ℕ, IsTrue, IsPermutation, List, [], Some, map};
+ghost use Rattle.std.specs.Prelude.{◌≡◌, ◌⊎◌, ℕ, IsTrue, IsPermutation, List, [], Some, is_some, map};
 ghost use Rattle.std.specs.List.{list_any};
 ghost use Rattle.std.specs.List.Sorted.{IsNonDecreasingBy};
 ghost use Rattle.bf_case.specs.declared.case.Case.{Case};
@@ -20,9 +20,10 @@ ghost use Rattle.bf_forest.specs.Meanings.{forest};
 ghost use Rattle.bf_driven.specs.Parcels.{blocks_of};
 
 use bf_forest::Forest;
+use bf_forest::laws::some_home_has_a_block;
 use bf_world::laws::{
-    a_complete_run_without_deaths_ends, a_finished_run_has_every_parcel,
-    a_finished_run_is_at_its_end, the_last_locals_are_good,
+    a_complete_run_has_an_end, a_complete_run_without_deaths_ends, a_finished_run_has_every_parcel,
+    a_finished_run_is_at_its_end, each_epoch_begins_good, the_last_locals_are_good,
 };
 
 /// Whatever order the events took and whoever died: once a run has finished, the blocks of its parcels are the leaves of
@@ -52,4 +53,14 @@ pub fn a_case_without_deaths_ends()
         ⊎ (((core_after forest setup journal).outcome ≡ Some Memory) × IsTrue (list_any is_memory journal)) }
 {
     a_complete_run_without_deaths_ends::<Forest>();
+}
+
+/// Once each rank is dead or has left, the run has an end: finished, lost or for want of memory.
+pub fn a_complete_run_ends()
+    ensures { (setup : Setup) (journal : List Event) → IsTrue (is_journal forest setup journal)
+        → IsTrue (is_finished (core_after forest setup journal)) → IsTrue (is_some (core_after forest setup journal).outcome) }
+{
+    each_epoch_begins_good::<Forest>();
+    some_home_has_a_block();
+    a_complete_run_has_an_end::<Forest>();
 }

@@ -66,7 +66,7 @@ fn expect_block(rt: &impl Abort, block: &Block, root: u32, low: u32, high: u32) 
     );
 }
 
-// The world has finished after so many restores, and its first two leaves have these cells in each row.
+// The world has finished with so many leaves, of which the first two have these cells in each row.
 fn expect_leaves(
     rt: &impl Abort,
     alloc: Global,

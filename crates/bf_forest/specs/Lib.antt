@@ -19,3 +19,4 @@ pub mod Known
 pub mod Ready
 pub mod ForestLaws
 pub mod Starts
+pub mod HomeLaws

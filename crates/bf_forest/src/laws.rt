@@ -1,6 +1,7 @@
 //! What holds of all ranks together, each law the contract of a call that does nothing.
-ghost use Rattle.std.specs.Prelude.{◌≡◌, ℕ, ◌+◌, ◌<◌, ◌≤◌, Bool, List, None, filter};
+ghost use Rattle.std.specs.Prelude.{◌≡◌, ℕ, ◌+◌, ◌-◌, ◌<◌, ◌≤◌, Bool, IsTrue, List, None, filter};
 ghost use Rattle.std.specs.List.{flat_map};
+ghost use Rattle.bf_buddy.specs.Members.{is_member};
 ghost use Rattle.bf_buddy.specs.Losses.{first_lost_of};
 ghost use Rattle.bf_program.specs.declared.epoch.Epoch.{Epoch};
 ghost use Rattle.bf_program.specs.Epochs.{first_epoch};
@@ -57,4 +58,16 @@ pub fn a_restore_rebuilds_the_agreed_map()
     ensures { (setup : Setup) (epoch : Epoch) (round : ℕ) (locals : List ForestLocal) (lives : ℕ → Bool) → IsGood setup epoch round locals
         → first_lost_of epoch.homes (forest.stored locals) (filter lives epoch.members) (forest.shift setup) ≡ None
         → AreLeaves (model (case_of setup) epoch.time) (flat_map (λ (local : ForestLocal). local.blocks) (restored_locals forest setup epoch lives locals)) }
+{}
+
+/// An epoch has a round for each of its steps, and one for the snapshot.
+pub fn an_epoch_has_a_round_for_each_step()
+    ensures { (setup : Setup) (epoch : Epoch) (round : ℕ) (locals : List ForestLocal) → IsGood setup epoch round locals
+        → rounds_of epoch ≡ epoch.target - epoch.time + 1 }
+{}
+
+/// Some home's part of the agreed snapshot has a block.
+pub fn some_home_has_a_block()
+    ensures { (setup : Setup) (epoch : Epoch) (round : ℕ) (locals : List ForestLocal) → IsGood setup epoch round locals
+        → (home : ℕ) × IsTrue (is_member (forest.stored locals) home) }
 {}
