@@ -2,7 +2,7 @@
 use Rattle.std.proofs.Common.{◌≡◌, ℕ, ◌*◌, ◌<◌, Bool, true, cond, List, arith, refl, ap, sym, ◌∙◌, All}
 use Rattle.std.specs.Prelude.{◌==◌, ◌&&◌, nat_lt}
 use Rattle.std.specs.List.{count_by, range_with_len}
-use Rattle.std.proofs.lemmas.Bool.{eq-eqb, eqb-true}
+use Rattle.std.proofs.lemmas.Bool.{eq-eqb, eqb-true, and_parts}
 use Rattle.std.proofs.lemmas.Bool.Decides.{nat_tests}
 use Rattle.std.proofs.lemmas.List.Elements.{All-weaker}
 use Rattle.bf_program.specs.declared.epoch.Epoch.{Epoch}
@@ -17,7 +17,7 @@ use Rattle.bf_block.specs.declared.setup.Setup.{Setup}
 use Rattle.bf_block.specs.Runs.{CanRun}
 use Rattle.bf_block.specs.Setup.{case_of, every_setup_runs}
 use Rattle.bf_block.specs.Block.{BlockValue}
-use Rattle.bf_parts.specs.Bools.{both, iff_same}
+use Rattle.bf_parts.specs.Bools.{iff_same}
 use Rattle.bf_parts.specs.Counts.{sums_same, amount_at, member_once}
 use Rattle.bf_parts.specs.KeyLaws.{count_mapped}
 use Rattle.bf_parts.specs.PieceLaws.{pieces_kept as pieces_are_kept}
@@ -49,8 +49,8 @@ spans_tell low size u = (λ passes. grind (arith, nat_tests), λ within. grind (
 holds_tells : (c : Cube) (v : Voxel) → (holds c v ≡ true → Holds c v) × (Holds c v → holds c v ≡ true)
 holds_tells c v = (
   λ passes.
-      let outer = both (spans c.x c.edge v.x && spans c.y c.edge v.y) (spans c.z c.edge v.z) passes in
-      let inner = both (spans c.x c.edge v.x) (spans c.y c.edge v.y) outer.0 in
+      let outer = and_parts (spans c.x c.edge v.x && spans c.y c.edge v.y) (spans c.z c.edge v.z) passes in
+      let inner = and_parts (spans c.x c.edge v.x) (spans c.y c.edge v.y) outer.0 in
       record {
         along_x = (spans_tell c.x c.edge v.x).0 inner.0;
         along_y = (spans_tell c.y c.edge v.y).0 inner.1;
@@ -61,8 +61,8 @@ holds_tells c v = (
 
 in_domain_tells : (shape : Shape) (v : Voxel) → in_domain shape v ≡ true → InDomain shape v
 in_domain_tells shape v passes =
-    let outer = both (nat_lt v.x (root_edge * shape.nx)) (nat_lt v.y (root_edge * shape.ny) && nat_lt v.z (root_edge * shape.nz)) passes in
-    let inner = both (nat_lt v.y (root_edge * shape.ny)) (nat_lt v.z (root_edge * shape.nz)) outer.1 in
+    let outer = and_parts (nat_lt v.x (root_edge * shape.nx)) (nat_lt v.y (root_edge * shape.ny) && nat_lt v.z (root_edge * shape.nz)) passes in
+    let inner = and_parts (nat_lt v.y (root_edge * shape.ny)) (nat_lt v.z (root_edge * shape.nz)) outer.1 in
     record { along_x = below v.x (root_edge * shape.nx) outer.0; along_y = below v.y (root_edge * shape.ny) inner.0; along_z = below v.z (root_edge * shape.nz) inner.1 }
   where
     below : (a b : ℕ) → nat_lt a b ≡ true → a < b

@@ -1,10 +1,10 @@
 -- A loop through ranks that leaves out those members that fail a test.
 use Rattle.std.proofs.Common.{◌≡◌, ℕ, ◌+◌, ◌<◌, ◌≤◌, Bool, true, false, cond, List, [], ◌∷◌, arith, refl, ap, sym, ◌∙◌}
+use Rattle.std.proofs.Math.Bool.{or-true, and-true, and-false}
 use Rattle.std.specs.Prelude.{◌==◌, ◌||◌, ◌&&◌, not, filter, nat_le, All}
 use Rattle.std.proofs.lemmas.Bool.{eqb-true}
 use Rattle.std.proofs.lemmas.Bool.Decides.{nat_tests}
 use Rattle.std.proofs.lemmas.List.Elements.{All-head, All-tail, filter_agree}
-use Rattle.bf_parts.specs.Bools.{or_true, and_true, and_false}
 
 -- members that pass a test, or have not been looked at, as only the ranks below one have
 unfoldable pub passed_below : (test : ℕ → Bool) → List ℕ → (rank : ℕ) → List ℕ
@@ -32,7 +32,7 @@ step_here test rank member passes = by_same (rank == member) refl
     by_same : (b : Bool) → (rank == member) ≡ b → (nat_le rank member || test member) ≡ (nat_le (rank + 1) member || test member)
     by_same true same =
         let it : test member ≡ true = ap test (sym (eqb-true rank member same)) ∙ passes in
-        rw it (or_true (nat_le rank member) ∙ sym (or_true (nat_le (rank + 1) member)))
+        rw it (or-true (nat_le rank member) ∙ sym (or-true (nat_le (rank + 1) member)))
     by_same false other = ap (λ b. b || test member) (next_le rank member other)
 
 step_past : (test : ℕ → Bool) (rank member : ℕ) → test rank ≡ false → ((nat_le rank member || test member) && not (member == rank)) ≡ (nat_le (rank + 1) member || test member)
@@ -42,8 +42,8 @@ step_past test rank member fails = by_same (member == rank) refl
     by_same true same =
         let it : test member ≡ false = ap test (eqb-true member rank same) ∙ fails in
         let past : nat_le (rank + 1) member ≡ false = grind (arith, nat_tests, eqb-true member rank same) in
-        and_false (nat_le rank member || test member) ∙ sym (ap (λ b. b || test member) past ∙ it)
-    by_same false other = and_true (nat_le rank member || test member) ∙ ap (λ b. b || test member) (grind (arith, nat_tests))
+        and-false (nat_le rank member || test member) ∙ sym (ap (λ b. b || test member) past ∙ it)
+    by_same false other = and-true (nat_le rank member || test member) ∙ ap (λ b. b || test member) (grind (arith, nat_tests))
 
 pub passed_start : (test : ℕ → Bool) (members : List ℕ) → members ≡ passed_below test members 0
 unfolding passed_below

@@ -1,16 +1,17 @@
 -- Which homes have an item, and who holds it.
 use Rattle.std.proofs.Common.{◌≡◌, ◌≢◌, ℕ, suc, zero, ◌+◌, ◌<◌, ◌≤◌, Bool, true, false, cond, List, [], ◌∷◌, length, arith, refl, ap, sym, ◌∙◌}
+use Rattle.std.proofs.Math.Bool.{or-true, or-false}
 use Rattle.std.specs.Prelude.{◌==◌, ◌||◌, ◌&&◌, not, nat_lt, filter, Some}
 use Rattle.std.specs.List.{AllZip, list_any, range_with_len}
 use Rattle.std.specs.List.Sorted.{IsStrictlyIncreasing}
-use Rattle.std.proofs.lemmas.Bool.{eqb-true, eq-eqb}
+use Rattle.std.proofs.lemmas.Bool.{eqb-true, eq-eqb, or_right, and_parts}
 use Rattle.std.proofs.lemmas.Bool.Decides.{nat_tests}
 use Rattle.bf_buddy.specs.Members.{is_member}
 use Rattle.bf_buddy.specs.Buddy.{buddy_of, predecessor_of}
 use Rattle.bf_buddy.proofs.LawLemmas.{predecessor_undoes}
 use Rattle.bf_program.specs.Lockstep.{local_of}
 use Rattle.bf_parts.specs.declared.side.Side.{Side}
-use Rattle.bf_parts.specs.Bools.{or_true, or_false, or_later, both, iff_same}
+use Rattle.bf_parts.specs.Bools.{iff_same}
 use Rattle.bf_parts.specs.Counts.{held_none, held_cons}
 use Rattle.bf_parts.specs.Shares.{held, once, is_filled, AreOf, AreCopies, IsSide, IsHeld}
 use Rattle.bf_parts.specs.Looks.{Look, holds_part, stored_of}
@@ -35,7 +36,7 @@ range_any test first (suc count) k low high found =
 
     at : ((first == k) ≡ false → list_any test (range_with_len (first + 1) count) ≡ true) → (b : Bool) → (first == k) ≡ b → (test first || list_any test (range_with_len (first + 1) count)) ≡ true
     at later true same = let here : test first ≡ true = ap test (eqb-true first k same) ∙ found in rw here refl
-    at later false other = or_later (test first) (list_any test (range_with_len (first + 1) count)) (later other)
+    at later false other = or_right (test first) (list_any test (range_with_len (first + 1) count)) (later other)
 
 any_range : (test : ℕ → Bool) (first count : ℕ) → list_any test (range_with_len first count) ≡ true → (k : ℕ) × ((k < first + count) × (test k ≡ true))
 any_range test first zero found = absurd (cc)
@@ -83,7 +84,7 @@ pub own_filled : {I : Type 0} (key : I → ℕ) (count : ℕ) (home_of : ℕ →
 own_filled key count home_of rank items are = iff_same (has_items items) (is_filled count home_of rank)
     (λ some.
     let one = first_held key items some in
-    let tests = both (nat_lt one.0 count) (home_of one.0 == rank) (once_some (nat_lt one.0 count && (home_of one.0 == rank)) one.1.0 (sym (are.each one.0) ∙ one.1.1)) in
+    let tests = and_parts (nat_lt one.0 count) (home_of one.0 == rank) (once_some (nat_lt one.0 count && (home_of one.0 == rank)) one.1.0 (sym (are.each one.0) ∙ one.1.1)) in
     fills count home_of rank one.0 (test_below one.0 count tests.0) (eqb-true (home_of one.0) rank tests.1))
     (λ filled.
     let k = filler count home_of rank filled in
@@ -97,9 +98,9 @@ pub other_filled : {I : Type 0} (key : I → ℕ) (count shift : ℕ) (homes : L
 other_filled key count shift homes home_of rank items up is_home apart are = iff_same (has_items items) (is_filled count home_of (predecessor_of homes rank shift))
     (λ some.
     let one = first_held key items some in
-    let tests = both (nat_lt one.0 count) (not (home_of one.0 == rank) && gives homes shift (home_of one.0) rank)
+    let tests = and_parts (nat_lt one.0 count) (not (home_of one.0 == rank) && gives homes shift (home_of one.0) rank)
     (once_some (nat_lt one.0 count && (not (home_of one.0 == rank) && gives homes shift (home_of one.0) rank)) one.1.0 (sym (are.each one.0) ∙ one.1.1)) in
-    let parts = both (not (home_of one.0 == rank)) (gives homes shift (home_of one.0) rank) tests.1 in
+    let parts = and_parts (not (home_of one.0 == rank)) (gives homes shift (home_of one.0) rank) tests.1 in
     fills count home_of (predecessor_of homes rank shift) one.0 (test_below one.0 count tests.0)
     (eqb-true (home_of one.0) (predecessor_of homes rank shift) (sym (gives_is homes shift (home_of one.0) rank up is_home) ∙ parts.1)))
     (λ filled.
@@ -118,9 +119,9 @@ copies_fill : {I : Type 0} (key : I → ℕ) (count shift : ℕ) (homes : List �
     → AreCopies key count shift homes home_of rank items → has_items items ≡ true → is_filled count home_of (predecessor_of homes rank shift) ≡ true
 copies_fill key count shift homes home_of rank items up is_home are some =
     let one = first_held key items some in
-    let tests = both (nat_lt one.0 count) (not (home_of one.0 == rank) && gives homes shift (home_of one.0) rank)
+    let tests = and_parts (nat_lt one.0 count) (not (home_of one.0 == rank) && gives homes shift (home_of one.0) rank)
     (once_some (nat_lt one.0 count && (not (home_of one.0 == rank) && gives homes shift (home_of one.0) rank)) one.1.0 (sym (are.each one.0) ∙ one.1.1)) in
-    let parts = both (not (home_of one.0 == rank)) (gives homes shift (home_of one.0) rank) tests.1 in
+    let parts = and_parts (not (home_of one.0 == rank)) (gives homes shift (home_of one.0) rank) tests.1 in
     fills count home_of (predecessor_of homes rank shift) one.0 (test_below one.0 count tests.0)
     (eqb-true (home_of one.0) (predecessor_of homes rank shift) (sym (gives_is homes shift (home_of one.0) rank up is_home) ∙ parts.1))
 
@@ -129,9 +130,9 @@ part_by : (a own c other filled : Bool) → (a ≡ true → own ≡ filled) → 
     → ((a && own) || (c && other)) ≡ ((a || c) && filled)
 part_by false own false other filled is_own is_other copy = refl
 part_by false own true other filled is_own is_other copy = is_other refl refl
-part_by true own false other filled is_own is_other copy = or_false own ∙ is_own refl
+part_by true own false other filled is_own is_other copy = or-false own ∙ is_own refl
 part_by true own true true filled is_own is_other copy = let f : filled ≡ true = copy refl refl in let o : own ≡ true = is_own refl ∙ f in rw (o, f) refl
-part_by true own true false filled is_own is_other copy = or_false own ∙ is_own refl
+part_by true own true false filled is_own is_other copy = or-false own ∙ is_own refl
 
 pub apart_from : (rank predecessor home : ℕ) → (predecessor == home) ≡ true → (rank == home) ≡ false → predecessor ≢ rank
 apart_from rank predecessor home same other again = grind (arith, nat_tests, again)
@@ -159,7 +160,7 @@ any_seat {L = L} test (member ∷ members) (x ∷ locals) rank local its found =
 
     at : (local_of members locals rank ≡ Some local → list_any test locals ≡ true) → (b : Bool) → cond b (Some x) (local_of members locals rank) ≡ Some local → (test x || list_any test locals) ≡ true
     at later true here = let passes : test x ≡ true = ap test (same x local here) ∙ found in rw passes refl
-    at later false there = or_later (test x) (list_any test locals) (later there)
+    at later false there = or_right (test x) (list_any test locals) (later there)
 
 seat_any : {L : Type 0} (R : ℕ → L → Type 0) (test : L → Bool) (members : List ℕ) (locals : List L) → AllZip R members locals → list_any test locals ≡ true
     → (rank : ℕ) × ((local : L) × (R rank local × (test local ≡ true)))
@@ -201,7 +202,7 @@ part_found {L = L} look count shift homes members home_of locals home seats is_h
     (λ some.
     let R : ℕ → L → Type 0 = λ rank local. (is_member members rank ≡ true) × (look.rank local ≡ rank) × IsSide look.key count shift homes home_of rank (look.active local) in
     let one = seat_any R (holds_part look home) members locals seats.each some in
-    (both (one.0 == home || predecessor_of homes one.0 shift == home) (is_filled count home_of home)
+    (and_parts (one.0 == home || predecessor_of homes one.0 shift == home) (is_filled count home_of home)
     (sym (holds_is look count shift homes home_of one.0 home one.1.0 seats.holders.homes_rise (seats.holders.among one.0 one.1.1.0.0) one.1.1.0.1 one.1.1.0.2) ∙ one.1.1.1)).1)
     (λ filled. at filled (is_member members home) refl (seats.holders.safe home is_home filled))
   where
@@ -211,13 +212,13 @@ part_found {L = L} look count shift homes members home_of locals home seats is_h
     at filled false dead buddy = found_at look count shift homes members home_of locals (buddy_of homes home shift) home seats buddy
         (let back : (predecessor_of homes (buddy_of homes home shift) shift == home) ≡ true =
         eq-eqb (predecessor_of homes (buddy_of homes home shift) shift) home (predecessor_undoes homes home shift seats.holders.homes_rise is_home) in
-        rw back (or_true (buddy_of homes home shift == home))) filled
+        rw back (or-true (buddy_of homes home shift == home))) filled
 
 filters_same : (p q : ℕ → Bool) (xs : List ℕ) → ((x : ℕ) → is_member xs x ≡ true → p x ≡ q x) → filter p xs ≡ filter q xs
 filters_same p q [] same = refl
 filters_same p q (x ∷ xs) same =
     let here : (x == x) ≡ true = eq-eqb x x refl in
-    rw (same x (rw here refl)) (ap (λ rest. cond (q x) (x ∷ rest) rest) (filters_same p q xs (λ y is_in. same y (or_later (x == y) (is_member xs y) is_in))))
+    rw (same x (rw here refl)) (ap (λ rest. cond (q x) (x ∷ rest) rest) (filters_same p q xs (λ y is_in. same y (or_right (x == y) (is_member xs y) is_in))))
 
 none_pass : (p : ℕ → Bool) (xs : List ℕ) → ((x : ℕ) → is_member xs x ≡ true → p x ≡ false) → filter p xs ≡ []
 none_pass p xs fails = filters_same p (λ x. false) xs fails ∙ none xs

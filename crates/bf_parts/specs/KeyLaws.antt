@@ -1,11 +1,12 @@
 -- A test of items that is a test of their keys counts the same wherever the same keys are.
 use Rattle.std.proofs.Common.{◌≡◌, ℕ, ◌+◌, ◌<◌, ◌≤◌, Bool, true, false, cond, List, [], ◌∷◌, arith, refl, ap, sym, ◌∙◌}
+use Rattle.std.proofs.Math.Bool.{and-false}
 use Rattle.std.specs.Prelude.{◌==◌, ◌&&◌, nat_lt, map, filter, All}
 use Rattle.std.specs.List.{count_by, sum_by, range_with_len}
 use Rattle.std.proofs.lemmas.Bool.{eqb-true, eq-eqb}
 use Rattle.std.proofs.lemmas.Bool.Decides.{nat_tests}
 use Rattle.std.proofs.lemmas.List.Elements.{All-head, All-tail}
-use Rattle.bf_parts.specs.Bools.{and_false, eqb_swap}
+use Rattle.bf_parts.specs.Bools.{eqb_swap}
 use Rattle.bf_parts.specs.Counts.{count_cons, held_none, held_cons, sums_same, sum_none, sum_of_both, amount_at, member_once}
 use Rattle.bf_parts.specs.Seats.{range_has, range_rises}
 use Rattle.bf_parts.specs.Shares.{held, once, AreOf}
@@ -127,7 +128,7 @@ counted_at passes count k true below =
     at false q false same = refl
 counted_at passes count k false above =
     sums_same (λ j. cond (passes j && (j == k)) 1 0) (λ j. 0) 0 count
-    (λ j low. ap (λ b. cond (passes j && b) 1 0) (other j low) ∙ ap (λ b. cond b 1 0) (and_false (passes j)))
+    (λ j low. ap (λ b. cond (passes j && b) 1 0) (other j low) ∙ ap (λ b. cond b 1 0) (and-false (passes j)))
     ∙ sum_none (range_with_len 0 count)
   where
     other : (j : ℕ) → j < 0 + count → (j == k) ≡ false

@@ -3,12 +3,12 @@ use Rattle.std.proofs.Common.{◌≡◌, ◌≢◌, ℕ, Bool, true, false, List
 use Rattle.std.specs.Prelude.{◌&&◌, IsTrue, All}
 use Rattle.std.specs.List.Sorted.{IsStrictlyIncreasing}
 use Rattle.std.proofs.lemmas.List.Kept.{IsStrictlyIncreasing-filter}
+use Rattle.std.proofs.lemmas.Bool.{and_parts}
 use Rattle.bf_buddy.specs.Members.{is_member}
 use Rattle.bf_program.specs.declared.epoch.Epoch.{Epoch}
 use Rattle.bf_program.specs.Laws.{KeepsPeers}
 use Rattle.bf_program.specs.Meanings.{Meanings}
 use Rattle.bf_parts.specs.declared.side.Side.{Side}
-use Rattle.bf_parts.specs.Bools.{both}
 use Rattle.bf_parts.specs.Looks.{Look}
 use Rattle.bf_parts.specs.Programs.{HasPeers, Shared}
 use Rattle.bf_parts.specs.Seats.{member_filter, all_passed}
@@ -24,7 +24,7 @@ module _ (sees : ℕ → ℕ → Bool) where
   seen_back : (members : List ℕ) (rank peer : ℕ) → sees rank peer ≡ sees peer rank → is_member members rank ≡ true
       → is_member (filter (sees rank) members) peer ≡ true → is_member (filter (sees peer) members) rank ≡ true
   seen_back members rank peer same is_in seen =
-      let one : sees rank peer ≡ true = (both (is_member members peer) (sees rank peer) (sym (member_filter (sees rank) members peer) ∙ seen)).1 in
+      let one : sees rank peer ≡ true = (and_parts (is_member members peer) (sees rank peer) (sym (member_filter (sees rank) members peer) ∙ seen)).1 in
       member_filter (sees peer) members rank ∙ ap (λ b. b && sees peer rank) is_in ∙ sym same ∙ one
 
 module _ {S L M T I : Type 0} (m : Meanings S L M T (Side I)) (look : Look L I) (setup : S) (count : ℕ) (has : HasPeers m look setup)

@@ -1,5 +1,6 @@
 -- The laws of a program whose ranks keep their items in parts.
 use Rattle.std.proofs.Common.{◌≡◌, ℕ, ◌+◌, ◌<◌, Bool, true, false, cond, List, [], ◌∷◌, length, map, arith, refl, ap, sym, ◌∙◌, subst}
+use Rattle.std.proofs.Math.Bool.{or-false, and-true, and-false}
 use Rattle.std.specs.Prelude.{◌==◌, ◌&&◌, ◌||◌, not, filter, All, IsTrue, None}
 use Rattle.std.specs.List.{AllZip, zip, range_with_len, list_any}
 use Rattle.std.specs.List.Sorted.{IsStrictlyIncreasing}
@@ -18,7 +19,7 @@ use Rattle.bf_program.specs.Lockstep.{after_receives, after_round, next_locals}
 use Rattle.bf_program.specs.Meanings.{Meanings}
 use Rattle.bf_program.specs.Restores.{heir_of, restored_epoch, restored_locals, filled_members}
 use Rattle.bf_parts.specs.declared.side.Side.{Side}
-use Rattle.bf_parts.specs.Bools.{or_false, and_true, and_false, eqb_swap}
+use Rattle.bf_parts.specs.Bools.{eqb_swap}
 use Rattle.bf_parts.specs.FillLaws.{own_filled, other_filled, apart_from}
 use Rattle.bf_parts.specs.Looks.{Look, stored_of, holds_part, homes_of}
 use Rattle.bf_parts.specs.Programs.{HasParts, HasOpening, Shared}
@@ -89,16 +90,16 @@ stored_homes stored homes test same up =
 -- by whether a home is the rank, has an own item, lives, is the predecessor, and whether the copy has an item and the predecessor lives
 given_by : (own a c other filled l t : Bool) → (a ≡ true → own ≡ filled) → (a ≡ true → l ≡ true) → (c ≡ true → t ≡ l) → (c ≡ true → a ≡ false → other ≡ filled)
     → ((a && own) || (c && (other && not t))) ≡ (filled && cond l a c)
-given_by own true false other filled true t is_own lives same is_other = or_false own ∙ is_own refl ∙ sym (and_true filled)
+given_by own true false other filled true t is_own lives same is_other = or-false own ∙ is_own refl ∙ sym (and-true filled)
 given_by own true true other filled true t is_own lives same is_other =
     let alive : t ≡ true = same refl in
-    rw alive (ap (λ b. own || b) (and_false other) ∙ or_false own ∙ is_own refl ∙ sym (and_true filled))
+    rw alive (ap (λ b. own || b) (and-false other) ∙ or-false own ∙ is_own refl ∙ sym (and-true filled))
 given_by own true c other filled false t is_own lives same is_other = absurd (let e : false ≡ true = lives refl in cc)
-given_by own false false other filled true t is_own lives same is_other = sym (and_false filled)
-given_by own false false other filled false t is_own lives same is_other = sym (and_false filled)
+given_by own false false other filled true t is_own lives same is_other = sym (and-false filled)
+given_by own false false other filled false t is_own lives same is_other = sym (and-false filled)
 given_by own false true other filled true t is_own lives same is_other =
     let alive : t ≡ true = same refl in
-    rw alive (and_false other ∙ sym (and_false filled))
+    rw alive (and-false other ∙ sym (and-false filled))
 given_by own false true other filled false t is_own lives same is_other =
     let gone : t ≡ false = same refl in
     rw gone (ap (λ b. b && true) (is_other refl refl))

@@ -1,5 +1,6 @@
 -- The items of the parts of the agreed snapshot, and what a restore gives of them.
 use Rattle.std.proofs.Common.{◌≡◌, ◌≢◌, ℕ, ◌+◌, Bool, true, false, cond, List, [], ◌∷◌, ◌++◌, arith, refl, ap, sym, ◌∙◌}
+use Rattle.std.proofs.Math.Bool.{or-false, and-true, and-false}
 use Rattle.std.specs.Prelude.{◌==◌, ◌||◌, ◌&&◌, not, nat_lt, filter}
 use Rattle.std.specs.List.{sum_by, count_by}
 use Rattle.std.specs.List.Sorted.{IsStrictlyIncreasing}
@@ -10,7 +11,7 @@ use Rattle.bf_buddy.specs.Buddy.{buddy_of, predecessor_of}
 use Rattle.bf_buddy.proofs.LawLemmas.{predecessor_undoes}
 use Rattle.bf_program.specs.Laws.{is_holder}
 use Rattle.bf_parts.specs.declared.side.Side.{Side}
-use Rattle.bf_parts.specs.Bools.{or_false, and_true, and_false, eqb_swap}
+use Rattle.bf_parts.specs.Bools.{eqb_swap}
 use Rattle.bf_parts.specs.Counts.{count_append, amount_at, member_once}
 use Rattle.bf_parts.specs.FillLaws.{not_zero}
 use Rattle.bf_parts.specs.Shares.{held, once, AreOf, IsSide}
@@ -69,12 +70,12 @@ empty_or_some test (item ∷ items) =
 given_by : {I : Type 0} (test : I → Bool) (own other : List I) (a c l : Bool) → (a ≡ true → c ≡ true → l ≡ true)
     → cond ((a && has_items own) || (c && (has_items other && not l))) (count_by test (cond a own (cond c other []))) 0
     ≡ cond a (count_by test own) 0 + cond c (cond l 0 (count_by test other)) 0
-given_by test own other true true true lives = ap (λ b. cond (has_items own || b) (count_by test own) 0) (and_false (has_items other))
-    ∙ ap (λ b. cond b (count_by test own) 0) (or_false (has_items own)) ∙ empty_or_some test own ∙ omega arith
+given_by test own other true true true lives = ap (λ b. cond (has_items own || b) (count_by test own) 0) (and-false (has_items other))
+    ∙ ap (λ b. cond b (count_by test own) 0) (or-false (has_items own)) ∙ empty_or_some test own ∙ omega arith
 given_by test own other true true false lives = absurd (let e : false ≡ true = lives refl refl in cc)
-given_by test own other true false l lives = ap (λ b. cond b (count_by test own) 0) (or_false (has_items own)) ∙ empty_or_some test own ∙ omega arith
-given_by test own other false true true lives = ap (λ b. cond b (count_by test other) 0) (and_false (has_items other)) ∙ omega arith
-given_by test own other false true false lives = ap (λ b. cond b (count_by test other) 0) (and_true (has_items other)) ∙ empty_or_some test other ∙ omega arith
+given_by test own other true false l lives = ap (λ b. cond b (count_by test own) 0) (or-false (has_items own)) ∙ empty_or_some test own ∙ omega arith
+given_by test own other false true true lives = ap (λ b. cond b (count_by test other) 0) (and-false (has_items other)) ∙ omega arith
+given_by test own other false true false lives = ap (λ b. cond b (count_by test other) 0) (and-true (has_items other)) ∙ empty_or_some test other ∙ omega arith
 given_by test own other false false l lives = omega arith
 
 regained_by : {I : Type 0} (test : I → Bool) (own other : List I) (b : Bool) → count_by test (cond b own (own ++ other)) ≡ count_by test own + cond b 0 (count_by test other)

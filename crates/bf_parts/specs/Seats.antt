@@ -1,15 +1,15 @@
 -- Lists of members and of what each has, walked in step.
 use Rattle.std.proofs.Common.{◌≡◌, ℕ, suc, zero, ◌+◌, ◌<◌, ◌≤◌, Bool, true, false, cond, List, [], ◌∷◌, length, arith, refl, ap, sym, ◌∙◌, subst}
+use Rattle.std.proofs.Math.Bool.{and-false}
 use Rattle.std.specs.Prelude.{◌==◌, ◌||◌, ◌&&◌, map, filter, Some, All}
 use Rattle.std.specs.List.{AllZip, zip, range_with_len}
-use Rattle.std.proofs.lemmas.Bool.{eqb-true, eq-eqb}
+use Rattle.std.proofs.lemmas.Bool.{eqb-true, eq-eqb, or_right}
 use Rattle.std.proofs.lemmas.Bool.Decides.{nat_tests}
 use Rattle.std.specs.List.Sorted.{IsStrictlyIncreasing}
 use Rattle.std.proofs.lemmas.List.Elements.{All-nil, All-cons}
 use Rattle.std.proofs.lemmas.List.FromFn.{length-range_with_len, get_or-range_with_len}
 use Rattle.bf_buddy.specs.Members.{is_member}
 use Rattle.bf_program.specs.Lockstep.{local_of}
-use Rattle.bf_parts.specs.Bools.{and_false, or_later}
 
 above : (a b : ℕ) → a ≤ b → (a == b) ≡ false → a + 1 ≤ b
 above a b low differ = grind (arith, nat_tests)
@@ -80,7 +80,7 @@ pub member_first : (member rank : ℕ) (members : List ℕ) → member ≡ rank 
 member_first member rank members same = rw (eq-eqb member rank same) refl
 
 pub member_later : (member rank : ℕ) (members : List ℕ) → is_member members rank ≡ true → is_member (member ∷ members) rank ≡ true
-member_later member rank members later = or_later (member == rank) (is_member members rank) later
+member_later member rank members later = or_right (member == rank) (is_member members rank) later
 
 pub member_filter : (test : ℕ → Bool) (members : List ℕ) (rank : ℕ) → is_member (filter test members) rank ≡ (is_member members rank && test rank)
 member_filter test [] rank = refl
@@ -92,7 +92,7 @@ member_filter test (member ∷ members) rank = at (test member) (member == rank)
     at true false passes other later = rw other later
     at false true fails same later =
         let it : test rank ≡ false = ap test (sym (eqb-true member rank same)) ∙ fails in
-        later ∙ ap (λ b. is_member members rank && b) it ∙ and_false (is_member members rank) ∙ sym it
+        later ∙ ap (λ b. is_member members rank && b) it ∙ and-false (is_member members rank) ∙ sym it
     at false false fails other later = later
 
 pub all_passed : (P : ℕ → Type 0) (test : ℕ → Bool) (members : List ℕ) → ((rank : ℕ) → is_member members rank ≡ true → test rank ≡ true → P rank) → All P (filter test members)

@@ -2,7 +2,7 @@
 use Rattle.std.proofs.Common.{◌≡◌, ℕ, ◌<◌, ◌≤◌, Bool, true, false, cond, List, [], ◌++◌, map, arith, refl, ap, sym, ◌∙◌, subst}
 use Rattle.std.specs.Prelude.{◌==◌, ◌||◌, filter, None, Some}
 use Rattle.std.specs.List.{AllZip, range_with_len, zip}
-use Rattle.std.proofs.lemmas.Bool.{eqb-true, eqb-false}
+use Rattle.std.proofs.lemmas.Bool.{eqb-true, eqb-false, and_parts}
 use Rattle.std.proofs.lemmas.List.Kept.{IsStrictlyIncreasing-filter}
 use Rattle.bf_buddy.specs.Members.{is_member}
 use Rattle.bf_buddy.specs.Buddy.{buddy_of, predecessor_of}
@@ -14,7 +14,6 @@ use Rattle.bf_program.specs.Lockstep.{local_of}
 use Rattle.bf_program.proofs.RestoreLemmas.{heir_lives}
 use Rattle.bf_program.specs.Restores.{heir_of, restored_epoch}
 use Rattle.bf_parts.specs.declared.side.Side.{Side}
-use Rattle.bf_parts.specs.Bools.{both}
 use Rattle.bf_parts.specs.FillLaws.{AreSeats, fills, stored_is_filled}
 use Rattle.bf_parts.specs.Looks.{Look, stored_of}
 use Rattle.bf_parts.specs.Openings.{opening_side, IsOpened, IsKept, IsRestored}
@@ -180,7 +179,7 @@ live_member : (lives : ℕ → Bool) (members : List ℕ) (rank : ℕ) → is_me
 live_member lives members rank is_in live = member_filter lives members rank ∙ rw (is_in, live) refl
 
 was_member : (lives : ℕ → Bool) (members : List ℕ) (rank : ℕ) → is_member (filter lives members) rank ≡ true → is_member members rank ≡ true
-was_member lives members rank is_in = (both (is_member members rank) (lives rank) (sym (member_filter lives members rank) ∙ is_in)).0
+was_member lives members rank is_in = (and_parts (is_member members rank) (lives rank) (sym (member_filter lives members rank) ∙ is_in)).0
 
 -- who goes on with a key after a restore
 abbrev pub heirs : (shift : ℕ) → Epoch → (lives : ℕ → Bool) → (home_of : ℕ → ℕ) → ℕ → ℕ

@@ -2,7 +2,7 @@
 use Rattle.std.proofs.Common.{◌≡◌, ◌≢◌, ℕ, ◌+◌, ◌<◌, Bool, true, false, cond, List, [], ◌++◌, length, arith, refl, ap, sym, ◌∙◌}
 use Rattle.std.specs.Prelude.{◌==◌, ◌&&◌, not, nat_lt}
 use Rattle.std.specs.List.Sorted.{IsStrictlyIncreasing}
-use Rattle.std.proofs.lemmas.Bool.{eqb-true, eq-eqb}
+use Rattle.std.proofs.lemmas.Bool.{eqb-true, eq-eqb, and_parts}
 use Rattle.std.proofs.lemmas.Bool.Decides.{nat_tests}
 use Rattle.bf_buddy.specs.Members.{is_member}
 use Rattle.bf_buddy.specs.Buddy.{place_of, buddy_of, predecessor_place, predecessor_of}
@@ -11,7 +11,6 @@ use Rattle.bf_buddy.proofs.LawLemmas.{predecessor_undoes, buddy_undoes}
 use Rattle.bf_program.specs.Restores.{heir_of}
 use Rattle.bf_parts.specs.Counts.{held_none, held_append}
 use Rattle.bf_parts.specs.Shares.{held, once, AreOf, AreCopies}
-use Rattle.bf_parts.specs.Bools.{both}
 use Rattle.bf_parts.specs.Sides.{gives}
 
 pub predecessor_member : (members : List ℕ) (rank shift : ℕ) → IsStrictlyIncreasing members → is_member members rank ≡ true
@@ -38,7 +37,7 @@ gives_is members shift from rank up is_in =
         eq-eqb (buddy_of members from shift) rank (ap (λ r. buddy_of members r shift) e ∙ buddy_undoes members rank shift up is_in) in
         sym is_no_giver ∙ rw (member, buddy) refl
     at false other true is_giver =
-        let parts = both (is_member members from) (buddy_of members from shift == rank) is_giver in
+        let parts = and_parts (is_member members from) (buddy_of members from shift == rank) is_giver in
         let buddy : buddy_of members from shift ≡ rank = eqb-true (buddy_of members from shift) rank parts.1 in
         let e : from ≡ predecessor_of members rank shift =
         sym (predecessor_undoes members from shift up parts.0) ∙ ap (λ r. predecessor_of members r shift) buddy in

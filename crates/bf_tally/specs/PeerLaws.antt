@@ -1,10 +1,11 @@
 -- Peers see each other, and none sees itself.
 use Rattle.std.proofs.Common.{◌≡◌, ℕ, ◌/◌, false, List, refl, ap, ◌∙◌}
+use Rattle.std.proofs.Math.Bool.{or_comm}
 use Rattle.std.specs.Prelude.{◌==◌, ◌&&◌, not}
 use Rattle.std.proofs.lemmas.Bool.{eq-eqb}
 use Rattle.bf_buddy.specs.Buddy.{place_of}
 use Rattle.bf_program.specs.Laws.{KeepsPeers}
-use Rattle.bf_parts.specs.Bools.{or_swap, eqb_swap}
+use Rattle.bf_parts.specs.Bools.{eqb_swap}
 use Rattle.bf_parts.specs.PeerLaws.{peers_kept as peers_are_kept}
 use Rattle.bf_parts.specs.Programs.{HasPeers}
 use Rattle.bf_parts.specs.Sides.{gives}
@@ -20,7 +21,7 @@ tied_swap : (stage : Stage) (members : List ℕ) (shift a b : ℕ) → is_tied s
 unfolding is_tied
 tied_swap Pair members shift a b = eqb_swap (place_of members a / 2) (place_of members b / 2)
 tied_swap Sum members shift a b = refl
-tied_swap Snapshot members shift a b = or_swap (gives members shift a b) (gives members shift b a)
+tied_swap Snapshot members shift a b = or_comm (gives members shift a b) (gives members shift b a)
 
 peer_swap : (stage : Stage) (members : List ℕ) (shift a b : ℕ) → is_peer stage members shift a b ≡ is_peer stage members shift b a
 unfolding is_peer
