@@ -1,18 +1,21 @@
 -- What a regrid and a step make of a block is the model's again.
-use Rattle.std.proofs.Common.{◌≡◌, ℕ, ◌<◌, true, false, Some, subst, sym}
+use Rattle.std.proofs.Common.{◌≡◌, ℕ, ◌<◌, true, false, Some, Bool, Contains, refl, ap, subst, sym, ◌∙◌}
+use Rattle.std.proofs.lemmas.List.Elements.{All-contains}
 use Rattle.bf_id.specs.Id.{BlockId, root_id}
 use Rattle.bf_id.specs.Shape.{root_count}
 use Rattle.bf_cells.specs.Grid.{Grid}
 use Rattle.bf_cells.specs.Shell.{Walls}
 use Rattle.bf_cells.specs.Kernel.{relaxed_grid}
 use Rattle.bf_case.specs.declared.case.Case.{Case}
-use Rattle.bf_case.specs.Map.{cells_at}
+use Rattle.bf_case.specs.Map.{Leaf, cells_at, ids_of, HasCells, IsMap}
 use Rattle.bf_case.specs.Model.{filled_root, model, model_at}
-use Rattle.bf_case.proofs.LookupLemmas.{cells_at-initial}
+use Rattle.bf_case.proofs.LookupLemmas.{cells_at-initial, leaf_from_cells_at}
+use Rattle.bf_case.proofs.ListLemmas.{Contains-map}
 use Rattle.bf_block.specs.Runs.{CanRun}
 use Rattle.bf_block.specs.Around.{HoldSamples}
-use Rattle.bf_block.specs.Block.{BlockValue, IsModels, before_regrid, map_at, kept_block, stepped_block}
-use Rattle.bf_block.proofs.Steps.{kept_leaf, stepped_leaf}
+use Rattle.bf_block.specs.Block.{BlockValue, IsModels, after_regrid, before_regrid, map_at, kept_block, stepped_block}
+use Rattle.bf_case.proofs.MapLemmas.{IsRootMap-model}
+use Rattle.bf_block.proofs.Steps.{kept_leaf, model_regridded, stepped_leaf}
 
 pub kept_is_models : (b whole : BlockValue) → b ≡ whole → CanRun b.case → IsModels b → whole.point.regridded ≡ false → IsModels (kept_block b)
 kept_is_models b whole same runs is fresh = record {
@@ -43,3 +46,21 @@ unfolding model
 initial_is_models c filled shared root id cells same also runs below named made =
     let valid = subst (λ (k : Case). CanRun k) same runs in
     rw (also, named, made, same) (record { leaf = cells_at-initial c root valid.valid below })
+
+-- a regrid of one level keeps each block
+pub kept_id : (b : BlockValue) → CanRun b.case → IsModels b → b.point.regridded ≡ false → Contains (ids_of (map_at b.case (after_regrid b.point.time))) b.id
+kept_id b runs is fresh =
+    Contains-map (λ (leaf : Leaf). leaf.0) (map_at b.case (after_regrid b.point.time)) (b.id, b.cells)
+    (leaf_from_cells_at (map_at b.case (after_regrid b.point.time)) b.id b.cells (kept_is_models b b refl runs is fresh).leaf)
+
+-- a block has cells of its case's side
+pub block_side : (b whole : BlockValue) → b ≡ whole → CanRun b.case → IsModels b → b.cells.side ≡ whole.case.side
+block_side b whole same runs is =
+    let map : IsMap b.case.roots b.case.side (map_at b.case b.point) = at_point b.point.regridded in
+    (All-contains (HasCells b.case.side) (map_at b.case b.point) (b.id, b.cells) map.cells (leaf_from_cells_at (map_at b.case b.point) b.id b.cells is.leaf)).fits
+    ∙ ap (λ (v : BlockValue). v.case.side) same
+  where
+    at_point : (after : Bool) → IsMap b.case.roots b.case.side (model_at b.case b.point.time after)
+    at_point false = (IsRootMap-model b.case b.point.time runs.valid runs.one_level).map
+    at_point true =
+        subst (IsMap b.case.roots b.case.side) (sym (model_regridded b.case b.point.time runs)) (IsRootMap-model b.case b.point.time runs.valid runs.one_level).map

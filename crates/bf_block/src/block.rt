@@ -42,10 +42,7 @@ impl Block {
         let cells = filled_root(alloc, setup.case(), root)?;
         Ok(Block {
             setup: setup.share()?,
-            point: Point {
-                time: 0,
-                regridded: false,
-            },
+            point: Point::before_regrid(0),
             id: Id::root_of(root),
             cells,
         })
@@ -66,6 +63,7 @@ impl Block {
     /// The cells, which are those of the model.
     pub fn cells(&self) -> &Cells
         ensures cells { result.now ≡ self.now.cells }
+        ensures side { result.now.side ≡ self.now.case.side }
         ensures model { IsModels self.now }
     {
         &self.cells
@@ -82,13 +80,9 @@ impl Block {
             id,
             cells,
         } = self;
-        let point = Point {
-            time: point.time,
-            regridded: true,
-        };
         Block {
             setup,
-            point,
+            point: Point::after_regrid(point.time),
             id,
             cells,
         }
@@ -105,13 +99,9 @@ impl Block {
     {
         let mut cells = Cells::filled(alloc, self.cells.side(), 0)?;
         self.cells.kernel(shell, &mut cells);
-        let point = Point {
-            time: self.point.time + 1,
-            regridded: false,
-        };
         Ok(Block {
             setup: self.setup.share()?,
-            point,
+            point: Point::before_regrid(self.point.time + 1),
             id: self.id,
             cells,
         })

@@ -10,6 +10,7 @@ pub mod laws;
 mod opening;
 mod point;
 mod setup;
+mod shared_case;
 
 pub use block::Block;
 pub use kept::Kept;
@@ -17,3 +18,6 @@ pub use opening::Opening;
 pub use point::Point;
 pub use setup::Setup;
 pub use std::alloc::AllocError as Memory;
+
+#[cfg(test)]
+mod tests;

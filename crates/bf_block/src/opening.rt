@@ -36,6 +36,7 @@ impl Opening {
         };
         Ok((opening, setup))
     }
+
     pub(crate) fn setup(&self) -> &Setup
         ensures { case_of result.now ≡ self.now }
     {

@@ -1,18 +1,17 @@
-ghost use Rattle.std.specs.Arc.{arc_value};
 ghost use Rattle.std.proofs.Props.{props};
 ghost use Rattle.bf_block.specs.Runs.{CanRun};
 
 use crate::Memory;
+use crate::shared_case::SharedCase;
 use bf_case::Case;
 use bf_id::Shape;
 use std::alloc::Global;
-use std::sync::Arc;
 
 /// The case of a run, of which a rank reads everything but the fills. So no rank can compute initial cells.
 #[derive(Drop)]
 pub struct Setup {
-    case: Arc<Case, Global>,
-    pub ghost runs: { CanRun (arc_value case) } by { Prim.hlevel props },
+    case: SharedCase,
+    pub ghost runs: { CanRun case } by { Prim.hlevel props },
 }
 
 impl Setup {
@@ -28,15 +27,15 @@ impl Setup {
         requires { CanRun case }
         ensures { IfOk result (λ setup. case_of setup ≡ case) }
     {
-        let case = Arc::new(alloc, case)?;
+        let case = SharedCase::of(alloc, case)?;
         Ok(Setup { case })
     }
 
-    /// A setup of the same case.
+    /// An equal setup, of the same case.
     pub fn share(&self) -> Result<Setup, Memory>
-        ensures { IfOk result (λ setup. case_of setup ≡ case_of self.now) }
+        ensures { IfOk result (λ setup. setup ≡ self.now) }
     {
-        let case = Arc::try_clone(&self.case)?;
+        let case = self.case.share()?;
         Ok(Setup { case })
     }
 
@@ -44,7 +43,7 @@ impl Setup {
         ensures case { result.now ≡ case_of self.now }
         ensures runs { CanRun result.now }
     {
-        &self.case
+        self.case.get()
     }
 
     /// How many root blocks the domain has along each axis.
@@ -52,7 +51,7 @@ impl Setup {
         ensures value { result ≡ (case_of self.now).roots }
         ensures shape { IsShape result }
     {
-        self.case.roots
+        self.case().roots
     }
 
     /// How many roots there are: 1 to 4096.
@@ -61,7 +60,7 @@ impl Setup {
         ensures some { 0 < result }
         ensures few { result ≤ 4096 }
     {
-        self.case.root_count()
+        self.case().root_count()
     }
 
     /// Cells along the edge of a block: an even number.
@@ -71,7 +70,7 @@ impl Setup {
         ensures wide { 2 ≤ result }
         ensures narrow { result ≤ 16 }
     {
-        self.case.side
+        self.case().side
     }
 
     /// The finest level, which is 0.
@@ -79,7 +78,7 @@ impl Setup {
         ensures value { result ≡ (case_of self.now).levels }
         ensures one_level { result ≡ 0 }
     {
-        self.case.levels
+        self.case().levels
     }
 
     pub fn ranks(&self) -> u32
@@ -87,14 +86,14 @@ impl Setup {
         ensures some { 1 ≤ result }
         ensures few { result ≤ 16 }
     {
-        self.case.ranks
+        self.case().ranks
     }
 
     pub fn steps(&self) -> u32
         ensures value { result ≡ (case_of self.now).steps }
         ensures few { result ≤ 128 }
     {
-        self.case.steps
+        self.case().steps
     }
 
     /// Steps from one snapshot to the next.
@@ -103,7 +102,7 @@ impl Setup {
         ensures some { 1 ≤ result }
         ensures few { result ≤ 128 }
     {
-        self.case.snapshot
+        self.case().snapshot
     }
 
     /// Steps from one regrid to the next; 0 for none.
@@ -111,14 +110,14 @@ impl Setup {
         ensures value { result ≡ (case_of self.now).regrid }
         ensures few { result ≤ 128 }
     {
-        self.case.regrid
+        self.case().regrid
     }
 
     /// A leaf whose spread is above this wishes to refine.
     pub fn refine(&self) -> u32
         ensures { result ≡ (case_of self.now).refine }
     {
-        self.case.refine
+        self.case().refine
     }
 
     /// A leaf whose spread is at most this wishes to coarsen.
@@ -126,7 +125,7 @@ impl Setup {
         ensures value { result ≡ (case_of self.now).coarsen }
         ensures uncrossed { result ≤ (case_of self.now).refine }
     {
-        self.case.coarsen
+        self.case().coarsen
     }
 
     /// Flow turns in a main turn.
@@ -134,7 +133,7 @@ impl Setup {
         ensures value { result ≡ (case_of self.now).flow }
         ensures few { result ≤ 8 }
     {
-        self.case.flow
+        self.case().flow
     }
 
     /// Main turns in a regrid.
@@ -142,7 +141,7 @@ impl Setup {
         ensures value { result ≡ (case_of self.now).turns }
         ensures few { result ≤ 8 }
     {
-        self.case.turns
+        self.case().turns
     }
 
     /// How far a buddy stands beyond the next member.
@@ -150,7 +149,7 @@ impl Setup {
         ensures value { result ≡ (case_of self.now).shift }
         ensures near { result ≤ 1000 }
     {
-        self.case.shift
+        self.case().shift
     }
 
     /// The ranks that die, rising, and how many events each has by then.
@@ -159,7 +158,7 @@ impl Setup {
         ensures ranks { All (IsDeath (case_of self.now).ranks) result.now }
         ensures rising { IsStrictlyIncreasing (map (λ (death : ℕ × ℕ). death.0) result.now) }
     {
-        self.case.dies.as_slice()
+        self.case().dies.as_slice()
     }
 
     /// The ranks that have the first turns.
@@ -167,6 +166,6 @@ impl Setup {
         ensures value { result.now ≡ (case_of self.now).order }
         ensures ranks { All (λ rank. rank < (case_of self.now).ranks) result.now }
     {
-        self.case.order.as_slice()
+        self.case().order.as_slice()
     }
 }

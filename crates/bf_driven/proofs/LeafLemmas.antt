@@ -87,11 +87,11 @@ rest_of first n k = at (first == k) (nat_le (first + 1) k) (nat_lt k (first + su
 pub stretch_is : (first count : ℕ) (xs : List ℕ) → AllPairs (λ a b. a ≤ b) xs → ((k : ℕ) → times_in xs k ≡ once (is_in first count k)) → xs ≡ range_with_len first count
 stretch_is first zero [] pairs each = refl
 stretch_is first zero (x ∷ xs) pairs each = absurd (
-  let its = in_stretch first 0 x (times_in xs x) (let one : times_in xs x + 1 ≡ times_in (x ∷ xs) x =
-        (let e : times_in xs x + 1 ≡ 1 + times_in xs x = omega arith in e) ∙ ap (λ b. once b + times_in xs x) (sym (eq-eqb x x refl)) ∙ sym (held_cons (λ (y : ℕ). y) x xs x) in one ∙ each x) in
-  omega (arith, its.0, its.1))
+    let its = in_stretch first 0 x (times_in xs x) (let one : times_in xs x + 1 ≡ times_in (x ∷ xs) x =
+    (let e : times_in xs x + 1 ≡ 1 + times_in xs x = omega arith in e) ∙ ap (λ b. once b + times_in xs x) (sym (eq-eqb x x refl)) ∙ sym (held_cons (λ (y : ℕ). y) x xs x) in one ∙ each x) in
+    omega (arith, its.0, its.1))
 stretch_is first (suc n) [] pairs each = absurd (
-  let one : 0 ≡ 1 = sym (held_none (λ (y : ℕ). y) first) ∙ each first ∙ ap once (first_here first n) in omega arith)
+    let one : 0 ≡ 1 = sym (held_none (λ (y : ℕ). y) first) ∙ each first ∙ ap once (first_here first n) in omega arith)
 stretch_is first (suc n) (x ∷ xs) pairs each =
     let e : x ≡ first = same in
     let later : xs ≡ range_with_len (first + 1) n = stretch_is (first + 1) n xs (λ i j d less within. pairs (suc i) (suc j) d (omega arith) (omega arith)) rest in

@@ -18,7 +18,7 @@ use Rattle.bf_forest.specs.Goods.{IsBlockAt, IsGood}
 use Rattle.bf_forest.specs.Hearing.{blocks_at, with_heard, step_heard}
 use Rattle.bf_forest.specs.Meanings.{forest}
 use Rattle.bf_forest.specs.NextLaws.{IsSeat, seats_of, known_to, known_models, known_roots, next_good}
-use Rattle.bf_forest.specs.PlainRounds.{plain_receives}
+use Rattle.bf_parts.specs.PlainRounds.{plain_receives}
 use Rattle.bf_forest.specs.Ready.{IsReady}
 use Rattle.bf_forest.specs.Stages.{span, rounds_of, stage_of, time_at}
 use Rattle.bf_forest.specs.StepLaws.{HasRoots}

@@ -3,3 +3,4 @@ pub mod Stepping
 pub mod Readying
 pub mod OpeningSteps
 pub mod Finishing
+mod StartSteps

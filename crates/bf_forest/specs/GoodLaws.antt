@@ -26,6 +26,7 @@ use Rattle.bf_parts.specs.Sides.{bare, regained}
 use Rattle.bf_forest.specs.declared.local.ForestLocal.{ForestLocal}
 use Rattle.bf_forest.specs.Goods.{IsBlockAt, HasModels, IsGood}
 use Rattle.bf_forest.specs.Meanings.{forest, forest_look, first_blocks, other_blocks, opened, restored}
+use Rattle.bf_forest.specs.StageLaws.{time_first, time_end}
 use Rattle.bf_forest.specs.Stages.{span, rounds_of, time_at}
 
 -- the forest keeps its blocks in parts
@@ -65,29 +66,12 @@ has_opening setup = record {
   laid = refl;
 }
 
--- the time at the beginning of an epoch, and once all its rounds are done
-pub time_first : (epoch : Epoch) → time_at epoch 0 ≡ epoch.time
-unfolding time_at
-time_first epoch = at epoch.time (span epoch)
-  where
-    at : (time steps : ℕ) → time + min 0 steps ≡ time
-    at time steps = omega arith
-
-pub time_last : (epoch : Epoch) (steps interval : ℕ) → epoch.time ≤ steps → interval ≤ 128 → epoch.target ≡ target_of steps interval epoch.time
-    → time_at epoch (rounds_of epoch) ≡ epoch.target
-unfolding time_at span
-time_last epoch steps interval begins short ends = at epoch.time epoch.target steps interval begins short ends
-  where
-    at : (time target steps interval : ℕ) → time ≤ steps → interval ≤ 128 → target ≡ min (time + interval) steps
-        → time + min (min (target - time) 128 + 1) (min (target - time) 128) ≡ target
-    at time target steps interval begins short ends = omega arith
-
 -- a filled root is the model's block at the beginning
 initial_is : (c : Case) (root : ℕ) → IsValid c → root < root_count c.roots → IsBlockAt c 0 (initial_block c root)
 unfolding model
 initial_is c root valid below = record { of_case = refl; at = refl; models = record { leaf = cells_at-initial c root valid below } }
 
-first_are : (c : Case) (rank : ℕ) → IsValid c → All (IsBlockAt c 0) (first_blocks c rank)
+pub first_are : (c : Case) (rank : ℕ) → IsValid c → All (IsBlockAt c 0) (first_blocks c rank)
 unfolding first_blocks
 first_are c rank valid =
     All-map (IsBlockAt c 0) (initial_block c) (filter (λ root. first_rank_of c root == rank) (range_with_len 0 (root_count c.roots)))
@@ -145,7 +129,7 @@ keep_good setup epoch locals good before =
       shared = keeps_shared forest forest_look setup (root_count c.roots) (has_parts setup) epoch locals good.shared;
       models = All-map (HasModels c after 0) forest.keep locals
           (All-weaker (HasModels c epoch (rounds_of epoch)) (λ local. HasModels c after 0 (forest.keep local))
-          (λ local has. kept_has c epoch after local (time_last epoch c.steps c.snapshot good.begins (every_setup_runs setup).valid.scheduled.short_snapshot good.ends) refl has) locals good.models);
+          (λ local has. kept_has c epoch after local (time_end c.steps c.snapshot epoch (rounds_of epoch) (every_setup_runs setup).valid.scheduled.short_snapshot good.begins good.ends (omega arith)) refl has) locals good.models);
     }
 
 -- a restore

@@ -20,7 +20,8 @@ use Rattle.bf_forest.specs.declared.message.ForestMessage.TheVariants.{Snapshot 
 use Rattle.bf_forest.specs.declared.stage.Stage.{Stage}
 use Rattle.bf_forest.specs.declared.stage.Stage.TheVariants.{Step, Snapshot}
 use Rattle.bf_forest.specs.Meanings.{forest, told, heard_of}
-use Rattle.bf_forest.specs.PlainRounds.{hears, hears_all}
+use Rattle.bf_parts.specs.Hearing.{HearsOne, nothing_heard as no_one_heard, one_heard}
+use Rattle.bf_parts.specs.PlainRounds.{hears, hears_all}
 use Rattle.bf_forest.specs.Stages.{stage_of}
 
 -- ---- a step
@@ -97,62 +98,30 @@ module _ (setup : Setup) (epoch : Epoch) (round : ℕ) (locals : List ForestLoca
       ap (local_of epoch.members locals) (eqb-true peer (predecessor_of epoch.members rank (case_of setup).shift) test) ∙ follows.found in
       ap (hears forest setup epoch round rank peer local) its ∙ ap (heard_of local) (says follows peer sender true its test)
 
+  hears_one : Follows setup epoch round locals rank sender
+      → HearsOne (λ (l : ForestLocal). Unit {0}) (λ receiver peer. hears forest setup epoch round rank peer receiver (local_of epoch.members locals peer))
+      (predecessor_of epoch.members rank (case_of setup).shift) (λ (l : ForestLocal). with_other l sender.blocks)
+  hears_one follows = record {
+    keeps = λ local is. tt;
+    again = λ local. refl;
+    others = λ local peer is other. other_heard follows peer local (local_of epoch.members locals peer) refl other;
+    its = λ local peer is same. predecessor_heard follows peer local same;
+  }
+
   -- where the predecessor is no peer, nothing is heard
   pub nothing_heard : Follows setup epoch round locals rank sender → (local : ForestLocal) (peers : List ℕ)
       → is_member peers (predecessor_of epoch.members rank (case_of setup).shift) ≡ false
       → hears_all forest setup epoch round locals rank local peers ≡ local
   unfolding hears_all
-  nothing_heard follows local [] apart = refl
-  nothing_heard follows local (peer ∷ peers) apart =
-      at (λ none. nothing_heard follows local peers none) (peer == predecessor_of epoch.members rank (case_of setup).shift) refl apart
-    where
-      at : (is_member peers (predecessor_of epoch.members rank (case_of setup).shift) ≡ false → hears_all forest setup epoch round locals rank local peers ≡ local)
-          → (b : Bool) → (peer == predecessor_of epoch.members rank (case_of setup).shift) ≡ b
-          → (b || is_member peers (predecessor_of epoch.members rank (case_of setup).shift)) ≡ false
-          → hears_all forest setup epoch round locals rank local (peer ∷ peers) ≡ local
-      at rest true same none = absurd (cc)
-      at rest false other none =
-          ap (λ (l : ForestLocal). hears_all forest setup epoch round locals rank l peers)
-          (other_heard follows peer local (local_of epoch.members locals peer) refl other)
-          ∙ rest none
-
-  -- what the predecessor gave stays
-  given_stays : Follows setup epoch round locals rank sender → (local : ForestLocal) (peers : List ℕ)
-      → hears_all forest setup epoch round locals rank (with_other local sender.blocks) peers ≡ with_other local sender.blocks
-  unfolding hears_all
-  given_stays follows local [] = refl
-  given_stays follows local (peer ∷ peers) = at (given_stays follows local peers) (peer == predecessor_of epoch.members rank (case_of setup).shift) refl
-    where
-      at : hears_all forest setup epoch round locals rank (with_other local sender.blocks) peers ≡ with_other local sender.blocks
-          → (b : Bool) → (peer == predecessor_of epoch.members rank (case_of setup).shift) ≡ b
-          → hears_all forest setup epoch round locals rank (with_other local sender.blocks) (peer ∷ peers) ≡ with_other local sender.blocks
-      at rest true same =
-          ap (λ (l : ForestLocal). hears_all forest setup epoch round locals rank l peers)
-          (predecessor_heard follows peer (with_other local sender.blocks) same)
-          ∙ rest
-      at rest false other =
-          ap (λ (l : ForestLocal). hears_all forest setup epoch round locals rank l peers)
-          (other_heard follows peer (with_other local sender.blocks) (local_of epoch.members locals peer) refl other)
-          ∙ rest
+  nothing_heard follows local peers apart =
+      no_one_heard (λ (l : ForestLocal). Unit {0}) (λ receiver peer. hears forest setup epoch round rank peer receiver (local_of epoch.members locals peer))
+      (predecessor_of epoch.members rank (case_of setup).shift) (λ (l : ForestLocal). with_other l sender.blocks) (hears_one follows) local peers tt apart
 
   -- where the predecessor is a peer, its part is heard
   pub part_heard : Follows setup epoch round locals rank sender → (local : ForestLocal) (peers : List ℕ)
       → is_member peers (predecessor_of epoch.members rank (case_of setup).shift) ≡ true
       → hears_all forest setup epoch round locals rank local peers ≡ with_other local sender.blocks
   unfolding hears_all
-  part_heard follows local [] there = absurd (cc)
-  part_heard follows local (peer ∷ peers) there =
-      at (given_stays follows local peers) (λ later. part_heard follows local peers later) (peer == predecessor_of epoch.members rank (case_of setup).shift) refl there
-    where
-      at : hears_all forest setup epoch round locals rank (with_other local sender.blocks) peers ≡ with_other local sender.blocks
-          → (is_member peers (predecessor_of epoch.members rank (case_of setup).shift) ≡ true → hears_all forest setup epoch round locals rank local peers ≡ with_other local sender.blocks)
-          → (b : Bool) → (peer == predecessor_of epoch.members rank (case_of setup).shift) ≡ b
-          → (b || is_member peers (predecessor_of epoch.members rank (case_of setup).shift)) ≡ true
-          → hears_all forest setup epoch round locals rank local (peer ∷ peers) ≡ with_other local sender.blocks
-      at stays rest true same here =
-          ap (λ (l : ForestLocal). hears_all forest setup epoch round locals rank l peers) (predecessor_heard follows peer local same)
-          ∙ stays
-      at stays rest false other later =
-          ap (λ (l : ForestLocal). hears_all forest setup epoch round locals rank l peers)
-          (other_heard follows peer local (local_of epoch.members locals peer) refl other)
-          ∙ rest later
+  part_heard follows local peers there =
+      one_heard (λ (l : ForestLocal). Unit {0}) (λ receiver peer. hears forest setup epoch round rank peer receiver (local_of epoch.members locals peer))
+      (predecessor_of epoch.members rank (case_of setup).shift) (λ (l : ForestLocal). with_other l sender.blocks) (hears_one follows) local peers tt there

@@ -3,7 +3,6 @@ pub mod Gathered
 pub mod Meanings
 pub mod Goods
 pub mod StepLaws
-pub mod PlainRounds
 pub mod Hearing
 pub mod SeatLaws
 pub mod StageLaws
@@ -19,3 +18,4 @@ pub mod PieceLaws
 pub mod Known
 pub mod Ready
 pub mod ForestLaws
+pub mod Starts

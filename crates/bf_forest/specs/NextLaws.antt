@@ -28,7 +28,8 @@ use Rattle.bf_forest.specs.Gathered.{stepped_among, gathered, advanced}
 use Rattle.bf_forest.specs.Goods.{IsBlockAt, HasModels, IsGood}
 use Rattle.bf_forest.specs.Hearing.{blocks_at, with_heard, with_other, step_heard, Follows, nothing_heard, part_heard}
 use Rattle.bf_forest.specs.Meanings.{forest, forest_look, ended}
-use Rattle.bf_forest.specs.PlainRounds.{hears_all, plain_round}
+use Rattle.bf_parts.specs.Hearing.{source_is}
+use Rattle.bf_parts.specs.PlainRounds.{hears_all, plain_round}
 use Rattle.bf_forest.specs.SeatLaws.{seats_both, seats_all, all_flat_map, all_at, key_among}
 use Rattle.bf_forest.specs.StageLaws.{stage_step, stage_snapshot, time_next, time_last, time_end}
 use Rattle.bf_forest.specs.Stages.{span, rounds_of, stage_of, time_at}
@@ -119,10 +120,6 @@ module _ (setup : Setup) (epoch : Epoch) (round : ℕ) (locals : List ForestLoca
           new_other = λ last. absurd (omega arith);
         },
       )
-
-source_is : (members : List ℕ) (shift rank its : ℕ) → its ≡ rank → is_member members rank ≡ true → source_of members shift its ≡ predecessor_of members rank shift
-unfolding source_of
-source_is members shift rank its same is_in = ap (source_of members shift) same ∙ (let e : source_of members shift rank ≡ predecessor_of members rank shift = rw is_in refl in e)
 
 -- the predecessor is a peer where it is another rank
 is_peer : (members : List ℕ) (predecessor rank its : ℕ) (b : Bool) → its ≡ rank → is_member members predecessor ≡ true → (predecessor == rank) ≡ b
@@ -224,7 +221,7 @@ module _ (setup : Setup) (epoch : Epoch) (round : ℕ) (locals : List ForestLoca
           unmade = λ before. absurd (omega arith);
           made = λ _. record {
             same = refl;
-            source = source_is epoch.members c.shift rank local.rank seat.0.its seat.0.member;
+            source = ap (source_of epoch.members c.shift) seat.0.its ∙ source_is epoch.members c.shift rank seat.0.member;
             own = seat.0.items;
             other = has.copies;
           };

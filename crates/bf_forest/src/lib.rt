@@ -10,6 +10,7 @@ mod message;
 mod opening;
 mod program;
 mod stage;
+mod start;
 mod step;
 
 pub use local::ForestLocal;
@@ -17,3 +18,7 @@ pub use message::ForestMessage;
 pub use opening::load;
 pub use program::Forest;
 pub use stage::Stage;
+pub use start::laid;
+
+#[cfg(test)]
+mod tests;

@@ -15,8 +15,8 @@ use bf_items::Items;
 use bf_parts::Side;
 use std::alloc::Global;
 
-// The rank at which a root begins.
-fn first_rank(setup: &Setup, root: u32) -> u32
+/// The rank at which a root begins.
+pub fn first_rank(setup: &Setup, root: u32) -> u32
     requires { root < root_count (case_of setup.now).roots }
     ensures { result ≡ first_rank_of (case_of setup.now) root }
 {

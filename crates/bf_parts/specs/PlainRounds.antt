@@ -48,17 +48,25 @@ hears_is {L = L} m setup epoch round leaves rank peer local (Some sender) =
     ap (λ (l : L). m.take setup local epoch round peer (m.out setup l epoch round rank).1)
     (sent m setup epoch round leaves sender (place_of (m.peers setup sender epoch round) rank))
 
+-- a local that has received all of a round
+pub plain_receives : {S L M T R : Type 0} (m : Meanings S L M T R) (setup : S) (epoch : Epoch) (round : ℕ) → LeavesLocals m setup epoch round
+    → (locals : List L) (rank : ℕ) (local : L)
+    → after_receives m setup epoch round locals rank local (length (m.peers setup local epoch round))
+    ≡ hears_all m setup epoch round locals rank local (m.peers setup local epoch round)
+unfolding after_receives hears_all
+plain_receives {L = L} m setup epoch round leaves locals rank local =
+    let peers = m.peers setup local epoch round in
+    let told : L → ℕ → L = λ receiver peer. after_message m setup epoch round rank peer receiver (local_of epoch.members locals peer) in
+    let heard : L → ℕ → L = λ receiver peer. hears m setup epoch round rank peer receiver (local_of epoch.members locals peer) in
+    ap (λ (l : L). fold told l (take (length peers) peers)) (sent m setup epoch round leaves local (length peers))
+    ∙ folds_agree told heard local (take (length peers) peers) (λ l peer. hears_is m setup epoch round leaves rank peer l (local_of epoch.members locals peer))
+    ∙ ap (λ ps. fold heard local ps) (take_whole peers)
+
 -- a local after a round
 pub plain_round : {S L M T R : Type 0} (m : Meanings S L M T R) (setup : S) (epoch : Epoch) (round : ℕ) → LeavesLocals m setup epoch round
     → (locals : List L) (rank : ℕ) (local : L)
     → after_round m setup epoch round locals rank local
     ≡ m.finish setup (hears_all m setup epoch round locals rank local (m.peers setup local epoch round)) epoch round
-unfolding after_round after_receives hears_all
+unfolding after_round
 plain_round {L = L} m setup epoch round leaves locals rank local =
-    let peers = m.peers setup local epoch round in
-    let told : L → ℕ → L = λ receiver peer. after_message m setup epoch round rank peer receiver (local_of epoch.members locals peer) in
-    let heard : L → ℕ → L = λ receiver peer. hears m setup epoch round rank peer receiver (local_of epoch.members locals peer) in
-    ap (λ (l : L). m.finish setup l epoch round)
-    (ap (λ (l : L). fold told l (take (length peers) peers)) (sent m setup epoch round leaves local (length peers))
-    ∙ folds_agree told heard local (take (length peers) peers) (λ l peer. hears_is m setup epoch round leaves rank peer l (local_of epoch.members locals peer))
-    ∙ ap (λ ps. fold heard local ps) (take_whole peers))
+    ap (λ (l : L). m.finish setup l epoch round) (plain_receives m setup epoch round leaves locals rank local)

@@ -1,7 +1,11 @@
 //! Keyed items that members of a run keep, with the two sides of their snapshots.
 #![tactic(auto)]
 
+pub mod laws;
 mod side;
 
 pub use bf_items::Items;
 pub use side::{Side, gives, source_of};
+
+#[cfg(test)]
+mod tests;

@@ -1,8 +1,8 @@
 -- What a rank's own events make of its account.
 use Rattle.std.proofs.Common.{◌≡◌, ℕ, zero, suc, ◌+◌, ◌-◌, ◌<◌, ◌≤◌, Bool, true, false, ◌||◌, not, List, [], ◌∷◌, ◌++◌, length, drop, arith, refl, sym, subst, ◌∙◌, ap, inl, inr}
-use Rattle.std.specs.Prelude.{◌==◌, Option, Some, None, Result, Ok, Err, IfOk, IsOk, OnOk, OnErr, is_some, slice_get, if◌then◌else◌, slice_set}
+use Rattle.std.specs.Prelude.{◌==◌, ◌⊎◌, Option, Some, None, Result, Ok, Err, IfOk, IsOk, OnOk, OnErr, is_some, slice_get, if◌then◌else◌, slice_set}
 use Rattle.std.proofs.lemmas.Bool.{eq-eqb, eqb-true, lt-ltb}
-use Rattle.std.proofs.lemmas.List.{get_or-set_same}
+use Rattle.std.proofs.lemmas.List.{get_or-set_same, nil_from_length}
 use Rattle.bf_program.specs.declared.epoch.Epoch.{Epoch}
 use Rattle.bf_program.specs.Meanings.{Meanings, Regions}
 use Rattle.bf_program.specs.Laws.{Laws}
@@ -41,14 +41,21 @@ use Rattle.bf_rank.specs.declared.stand.Turn.{Turn}
 use Rattle.bf_rank.specs.declared.stand.Turn.TheVariants as turns
 use Rattle.bf_rank.specs.declared.stand.Step.{Step}
 use Rattle.bf_rank.specs.declared.stand.Step.TheVariants as steps
-use Rattle.bf_rank.specs.Ranks.{RankView, Sight, sight, IsLocalAt, local_in_round, HasArrived, HasLocal, WillBegin, Agrees, IsAt, IsTurn, TookTurn}
+use Rattle.bf_rank.specs.Ranks.{RankView, Sight, sight, IsLocalAt, local_in_round, HasFinished, HasLocal, WillBegin, Agrees, IsAt, IsTurn, IsOfferedSome, TookTurn}
 use Rattle.bf_rank.specs.Steps.{holding, viewed, local_kept, turn_to, MayStep, HasMoved, HasStepped, TakesNext, ComesTo, Begins, HasPassed, IsBeginning, Gives}
 use Rattle.bf_rank.proofs.AgreeLemmas.{agrees_settled}
-use Rattle.bf_rank.proofs.ArriveLemmas.{done_filled, done_parcel, arrives_broken, arrives_done, arrives_with_parcel, waiting_offers_nothing, arrived_offers_nothing}
+use Rattle.bf_rank.proofs.ArriveLemmas.{done_filled, done_parcel, arrives_done, arrives_with_parcel, waiting_offers_nothing, arrived_offers_nothing}
 use Rattle.bf_rank.proofs.TurnLemmas.{MaySend, may_send}
 
 the_local : {L : Type 0} {a b : L} → Some a ≡ Some b → a ≡ b
 the_local {a = a} same = ap (λ o. elim o [ Some v ↦ v | None ↦ a ]) same
+
+not_same : (a b : ℕ) → (a ≡ b → ⊥) → (a == b) ≡ false
+not_same a b differs = by_test (a == b) refl
+  where
+    by_test : (c : Bool) → (a == b) ≡ c → c ≡ false
+    by_test true same = absurd (differs (eqb-true a b same))
+    by_test false _ = refl
 
 not_zero : (n : ℕ) → 0 < n → (n == 0) ≡ false
 not_zero n some = by_test (n == 0) refl
@@ -66,6 +73,24 @@ queues_of_setup {S = S} m seen setup journal waiting same queues = let P : S →
 pub of_setup : {S L M T R : Type 0} (m : Meanings S L M T R) (seen setup : S) (journal : List Event) → seen ≡ setup → is_journal m seen journal ≡ true
     → is_journal m setup journal ≡ true
 of_setup {S = S} m seen setup journal same legal = let P : S → Type 0 = λ s. is_journal m s journal ≡ true in subst P same legal
+
+-- one event more of a rank, that a turn may add; it has made all its turns then, and is past its opening
+pub record HasTurned {S L M T R : Type 0} (m : Meanings S L M T R) (good : S → Epoch → ℕ → List L → Type 0) (setup : S) (old new : List Event) (view : RankView L) : Type 0 where
+  pub event : Event
+  pub more : new ≡ old ++ event ∷ []
+  pub turn : IsTurn m good setup old view.rank event
+  pub opened : view.stand ≡ stands.Opening → ⊥
+  pub at : IsAt m good setup new view
+
+pub turned : {S L M T R : Type 0} (m : Meanings S L M T R) (good : S → Epoch → ℕ → List L → Type 0) (setup : S) (old new : List Event) (view : RankView L)
+    → HasMoved m good setup old new view → HasTurned m good setup old new view
+turned m good setup old new view moved = record {
+  event = moved.event;
+  more = moved.more;
+  turn = record { its = moved.offered.its; offered = inl moved.offered };
+  opened = moved.opened;
+  at = moved.at;
+}
 
 module _ {S L M T R B U : Type 0} (m : Meanings S L M T R) (regions : Regions S L M T R B U) (good : S → Epoch → ℕ → List L → Type 0) (setup : S)
     (laws : Laws m regions good setup) (journal : List Event) (legal : is_journal m setup journal ≡ true) where
@@ -90,6 +115,14 @@ module _ {S L M T R B U : Type 0} (m : Meanings S L M T R) (regions : Regions S 
     its = ap (λ e. local_at m setup e now.start rank (m.rounds setup e)) epochs ∙ ap (λ s. local_at m setup seen.epoch s rank (m.rounds setup seen.epoch)) starts ∙ here.its;
     here = here.here;
   }
+
+  -- who has come to a place is past its opening
+  comes_past : (seen : Sight L) (rank : ℕ) (to : Place) (local : L) (stand : Stand) → ComesTo m good setup seen rank to local stand → stand ≡ stands.Opening → ⊥
+  comes_past seen rank to local (stands.Placed at) comes is = absurd (cc)
+  comes_past seen rank to local stands.Failed comes is = absurd (cc)
+  comes_past seen rank to local stands.Opening comes is = comes
+  comes_past seen rank to local stands.Arrived comes is = comes
+  comes_past seen rank to local stands.Ended comes is = comes
 
   -- a rank that stands at a place, and may step
   pub record AtPlace (rank : ℕ) (epoch : Epoch) (at : Place) (local : L) : Type 0 where
@@ -134,20 +167,27 @@ module _ {S L M T R B U : Type 0} (m : Meanings S L M T R) (regions : Regions S 
         ]
       ]
 
-  -- a rank's own event, with what agrees before any decision
+  -- what agrees with a rank's own event before any decision agrees after it
+  moved_at : (new : List Event) (event : Event) (view : RankView L) → view.rank < m.ranks setup → new ≡ journal ++ event ∷ []
+      → Agrees m good setup (sight (run_happened m setup run event) view.rank) view view.stand → IsAt m good setup new view
+  moved_at new event view ranked more agrees = record {
+    within = ranked;
+    agrees = let P : Run L T → Type 0 = λ r. Agrees m good setup (sight r view.rank) view view.stand in
+        subst P (sym (ap (run_after m setup) more ∙ run_more m setup journal event))
+        (agrees_settled m good setup laws.saves run event view view.stand ranked lawful.steady.good_start agrees);
+  }
+
+  -- a rank's own event
   pub has_moved : (new : List Event) (event : Event) (view : RankView L) → view.rank < m.ranks setup → new ≡ journal ++ event ∷ []
-      → IsTurn m good setup journal view.rank event → Agrees m good setup (sight (run_happened m setup run event) view.rank) view view.stand
+      → IsOffered (run_after m setup journal).core view.rank (place (run_after m setup journal) view.rank) event → (view.stand ≡ stands.Opening → ⊥)
+      → Agrees m good setup (sight (run_happened m setup run event) view.rank) view view.stand
       → HasMoved m good setup journal new view
-  has_moved new event view ranked more turn agrees = record {
+  has_moved new event view ranked more offered opened agrees = record {
     event = event;
     more = more;
-    turn = turn;
-    at = record {
-      within = ranked;
-      agrees = let P : Run L T → Type 0 = λ r. Agrees m good setup (sight r view.rank) view view.stand in
-          subst P (sym (ap (run_after m setup) more ∙ run_more m setup journal event))
-          (agrees_settled m good setup laws.saves run event view view.stand ranked lawful.steady.good_start agrees);
-    };
+    offered = offered;
+    opened = opened;
+    at = moved_at new event view ranked more agrees;
   }
 
   still_runs : (rank : ℕ) → stage run.core rank ≡ Running → stage (with_stage run.core rank (stage run.core rank)) rank ≡ Running
@@ -188,12 +228,9 @@ module _ {S L M T R B U : Type 0} (m : Meanings S L M T R) (regions : Regions S 
         has_moved new (Send rank to blocks sum) (holding rank after epoch (stands.Placed (Rounds round (sent + 1) received peers))) stands_at.ranked more
         (record {
           its = refl;
-          offered = inl (record {
-            its = refl;
-            legal = and_both _ _ stands_at.active (just_same _ to (ap next_send stands_at.at_is ∙ next));
-            memory = λ is. absurd (cc);
-          });
-        }) (
+          legal = and_both _ _ stands_at.active (just_same _ to (ap next_send stands_at.at_is ∙ next));
+          memory = λ is. absurd (cc);
+        }) (λ is. absurd (cc)) (
           still_runs rank stands_at.runs,
           (
             stands_at.same,
@@ -215,8 +252,9 @@ module _ {S L M T R B U : Type 0} (m : Meanings S L M T R) (regions : Regions S 
         local,
         (
           refl,
-          arrives_broken m good setup laws.saves (sight (run_happened m setup run (Arrive rank Broken)) rank) rank at local
-              (same_here at local (sight run rank) (sight (run_happened m setup run (Arrive rank Broken)) rank) rank refl refl stands_at.here),
+          (let Q : Place → Type 0 = λ p. IsLocalAt m good setup (sight (run_happened m setup run (Arrive rank Broken)) rank) rank p local in
+              subst Q (sym stands_at.at_is)
+              (same_here at local (sight run rank) (sight (run_happened m setup run (Arrive rank Broken)) rank) rank refl refl stands_at.here)),
         ),
       )
 
@@ -277,12 +315,10 @@ module _ {S L M T R B U : Type 0} (m : Meanings S L M T R) (regions : Regions S 
         has_moved new (Recv rank peer) (holding rank after epoch stand) stands_at.ranked more
         (record {
           its = refl;
-          offered = inl (record {
-            its = refl;
-            legal = and_both _ _ (and_both _ _ stands_at.active (just_same _ peer (ap next_receive stands_at.at_is ∙ next))) (ap not (waits_as ∙ some));
-            memory = λ is. absurd (cc);
-          });
+          legal = and_both _ _ (and_both _ _ stands_at.active (just_same _ peer (ap next_receive stands_at.at_is ∙ next))) (ap not (waits_as ∙ some));
+          memory = λ is. absurd (cc);
         })
+        (λ is. comes_past (sight run rank) rank (after_receive m setup run.core.epoch run.start rank at) after stand comes is)
         (moves_on after stand comes)
 
     empty : messages waiting peer rank ≡ [] → queue run.core peer rank ≡ 0
@@ -294,12 +330,10 @@ module _ {S L M T R B U : Type 0} (m : Meanings S L M T R) (regions : Regions S 
         has_moved new (Arrive rank Broken) (holding rank local epoch stands.Arrived) stands_at.ranked more
         (record {
           its = refl;
-          offered = inl (record {
-            its = refl;
-            legal = and_both _ _ (and_both _ _ stands_at.active (waits_as ∙ eq-eqb (queue run.core peer rank) 0 (empty none))) dead;
-            memory = λ is. absurd (cc);
-          });
+          legal = and_both _ _ (and_both _ _ stands_at.active (waits_as ∙ eq-eqb (queue run.core peer rank) 0 (empty none))) dead;
+          memory = λ is. absurd (cc);
         })
+        (λ is. absurd (cc))
         (arrives_agree rank epoch at local stands_at Broken refl)
 
     pub nothing_offered : messages waiting peer rank ≡ [] → has_dead_member (core_after m setup journal) ≡ false → is_short_of_memory (core_after m setup journal) ≡ false
@@ -326,49 +360,56 @@ module _ {S L M T R B U : Type 0} (m : Meanings S L M T R) (regions : Regions S 
     here_done : IsLocalAt m good setup (sight (run_happened m setup run (Arrive rank Done)) rank) rank Past local
     here_done = same_here Past local (sight run rank) (sight (run_happened m setup run (Arrive rank Done)) rank) rank refl refl stands_at.here
 
-    arrived_done : (given : Option T) → Gives m good setup epoch local after given
-        → HasArrived m good setup (sight (run_happened m setup run (Arrive rank Done)) rank) rank Done after
+    abbrev seen_done : Sight L
+    seen_done = sight (run_happened m setup run (Arrive rank Done)) rank
+
+    arrived_done : (given : Option T) → Gives m good setup epoch local after given → HasFinished m good setup seen_done rank after
     arrived_done (Some part) has =
-        let P : L → Type 0 = HasArrived m good setup (sight (run_happened m setup run (Arrive rank Done)) rank) rank Done in
-        subst P (sym has.1.1) (arrives_with_parcel m good setup laws.saves (sight (run_happened m setup run (Arrive rank Done)) rank) rank local here_done (last_when has.0))
+        let P : L → Type 0 = HasFinished m good setup seen_done rank in
+        subst P (sym has.1.1) (arrives_with_parcel m good setup seen_done rank local here_done (eq-eqb run.core.epoch.target run.core.steps (last_when has.0)))
     arrived_done None has =
-        let P : L → Type 0 = HasArrived m good setup (sight (run_happened m setup run (Arrive rank Done)) rank) rank Done in
-        subst P (sym has.1) (arrives_done m good setup laws.saves (sight (run_happened m setup run (Arrive rank Done)) rank) rank local here_done)
+        let P : L → Type 0 = HasFinished m good setup seen_done rank in
+        subst P (sym has.1) (arrives_done m good setup seen_done rank local here_done (not_same run.core.epoch.target run.core.steps (λ ends. has.0 (when_last ends))))
 
     pub has_done : (new : List Event) → new ≡ journal ++ Arrive rank Done ∷ [] → HasMoved m good setup journal new (holding rank after epoch stands.Arrived)
     has_done new more =
         has_moved new (Arrive rank Done) (holding rank after epoch stands.Arrived) stands_at.ranked more
         (record {
           its = refl;
-          offered = inl (record {
-            its = refl;
-            legal = and_both _ _ stands_at.active (ap is_past stands_at.at_is);
-            memory = λ is. absurd (cc);
-          });
+          legal = and_both _ _ stands_at.active (ap is_past stands_at.at_is);
+          memory = λ is. absurd (cc);
         })
+        (λ is. absurd (cc))
         (let P : Stage → Type 0 = HasLocal m good setup (sight (run_happened m setup run (Arrive rank Done)) rank) (holding rank after epoch stands.Arrived) in
         subst P (sym (moved_stage run.core rank (Arrived Done (will_be_filled m setup run rank)) (in_list run.core rank stands_at.runs)).its)
         (after, (refl, arrived_done parcel gives)))
 
   -- an arrival for want of memory
   pub has_failed : (new : List Event) (view : RankView L) → view.rank < m.ranks setup → stage (run_after m setup journal).core view.rank ≡ Running → view.stand ≡ stands.Arrived
-      → new ≡ journal ++ Arrive view.rank Memory ∷ [] → HasMoved m good setup journal new view
-  has_failed new view ranked runs stand_is more =
-      has_moved new (Arrive view.rank Memory) view ranked more (record { its = refl; offered = inr refl })
-      (let Q : Stand → Type 0 = Agrees m good setup (sight (run_happened m setup run (Arrive view.rank Memory)) view.rank) view in
-      subst Q (sym stand_is)
-      (let P : Stage → Type 0 = HasLocal m good setup (sight (run_happened m setup run (Arrive view.rank Memory)) view.rank) view in
-      subst P (sym (moved_stage run.core view.rank (Arrived Memory false) (in_list run.core view.rank runs)).its) tt))
+      → new ≡ journal ++ Arrive view.rank Memory ∷ [] → HasTurned m good setup journal new view
+  has_failed new view ranked runs stand_is more = record {
+    event = Arrive view.rank Memory;
+    more = more;
+    turn = record { its = refl; offered = inr refl };
+    opened = λ opens. absurd (let e : stands.Arrived ≡ stands.Opening = sym stand_is ∙ opens in cc);
+    at = moved_at new (Arrive view.rank Memory) view ranked more
+        (let Q : Stand → Type 0 = Agrees m good setup (sight (run_happened m setup run (Arrive view.rank Memory)) view.rank) view in
+        subst Q (sym stand_is)
+        (let P : Stage → Type 0 = HasLocal m good setup (sight (run_happened m setup run (Arrive view.rank Memory)) view.rank) view in
+        subst P (sym (moved_stage run.core view.rank (Arrived Memory false) (in_list run.core view.rank runs)).its) tt));
+  }
 
   -- a death
   pub has_died : (new : List Event) (view : RankView L) → view.rank < m.ranks setup → is_due (run_after m setup journal).core view.rank ≡ true → view.stand ≡ stands.Ended
-      → new ≡ journal ++ Die view.rank ∷ [] → HasMoved m good setup journal new view
+      → new ≡ journal ++ Die view.rank ∷ [] → HasTurned m good setup journal new view
   has_died new view ranked due stand_is more =
-      has_moved new (Die view.rank) view ranked more
-      (record { its = refl; offered = inl (record { its = refl; legal = due; memory = λ is. absurd (cc) }) })
+      turned m good setup journal new view
+      (has_moved new (Die view.rank) view ranked more
+      (record { its = refl; legal = due; memory = λ is. absurd (cc) })
+      (λ opens. absurd (let e : stands.Ended ≡ stands.Opening = sym stand_is ∙ opens in cc))
       (let Q : Stand → Type 0 = Agrees m good setup (sight (run_happened m setup run (Die view.rank)) view.rank) view in
       subst Q (sym stand_is)
-      (ap goes_on (moved_stage run.core view.rank Dead (is_rank goes_on run.core view.rank refl (first_of_two (goes_on (stage run.core view.rank)) _ due))).its))
+      (ap goes_on (moved_stage run.core view.rank Dead (is_rank goes_on run.core view.rank refl (first_of_two (goes_on (stage run.core view.rank)) _ due))).its)))
 
   -- the first place of an epoch
   pub opens : (rank : ℕ) (epoch : Epoch) (local : L) → MayStep m good setup journal (holding rank local epoch stands.Opening)
@@ -432,11 +473,8 @@ module _ {S L M T R B U : Type 0} (m : Meanings S L M T R) (regions : Regions S 
         → (event : Event) → IsOffered (run_after m setup journal).core view.rank (place (run_after m setup journal) view.rank) event → ⊥
     waits_for_decision still = arrived_offers_nothing run.core view.rank (place run view.rank) may.undue still
 
-    leaving_turn : is_leaving (stage run.core view.rank) ≡ true → IsTurn m good setup journal view.rank (Leave view.rank)
-    leaving_turn leaving = record {
-      its = refl;
-      offered = inl (record { its = refl; legal = and_both _ _ leaving (ap not may.undue); memory = λ is. absurd (cc) });
-    }
+    leaving_turn : is_leaving (stage run.core view.rank) ≡ true → IsOffered run.core view.rank (place run view.rank) (Leave view.rank)
+    leaving_turn leaving = record { its = refl; legal = and_both _ _ leaving (ap not may.undue); memory = λ is. absurd (cc) }
 
     stage_left : is_leaving (stage run.core view.rank) ≡ true
         → stage (happened run.core (Leave view.rank) (will_be_filled m setup run view.rank)) view.rank ≡ (if is_some run.core.outcome then Ended else Running)
@@ -450,7 +488,7 @@ module _ {S L M T R B U : Type 0} (m : Meanings S L M T R) (regions : Regions S 
         subst P (sym same)
         (let Q : Stand → Type 0 = λ s. HasMoved m good setup journal new (record { rank = view.rank; local = after.local; epoch = after.epoch; stand = s }) in
         subst Q (sym ends)
-        (has_moved new (Leave view.rank) (record { rank = view.rank; local = after.local; epoch = after.epoch; stand = stands.Ended }) may.at.within more (leaving_turn leaving)
+        (has_moved new (Leave view.rank) (record { rank = view.rank; local = after.local; epoch = after.epoch; stand = stands.Ended }) may.at.within more (leaving_turn leaving) (λ is. absurd (cc))
         (ap goes_on (stage_left leaving ∙ ap (λ o. if is_some o then Ended else Running) over))))
 
     pub begins : is_leaving (stage (core_after m setup journal) view.rank) ≡ true → (core_after m setup journal).outcome ≡ None
@@ -459,7 +497,7 @@ module _ {S L M T R B U : Type 0} (m : Meanings S L M T R) (regions : Regions S 
     begins leaving none =
         let P : Stage → Type 0 = HasLocal m good setup (sight run view.rank) view in
         let has : HasLocal m good setup (sight run view.rank) view Leaving = subst P (leaving_stage run.core view.rank leaving) has_local in
-        has none
+        has.0 none
 
     pub is_beginning : (epoch : Epoch) (local : L) → is_leaving (stage (core_after m setup journal) view.rank) ≡ true → (core_after m setup journal).outcome ≡ None
         → epoch ≡ (core_after m setup journal).epoch → view.local ≡ Some local
@@ -480,7 +518,8 @@ module _ {S L M T R B U : Type 0} (m : Meanings S L M T R) (regions : Regions S 
         (first_place m setup (core_after m setup journal).epoch (run_after m setup journal).start view.rank) after stand
         → HasMoved m good setup journal new (holding view.rank after epoch stand)
     has_begun new epoch after stand leaving none same more comes =
-        has_moved new (Leave view.rank) (holding view.rank after epoch stand) may.at.within more (leaving_turn leaving) (by_stand stand comes)
+        has_moved new (Leave view.rank) (holding view.rank after epoch stand) may.at.within more (leaving_turn leaving)
+        (λ is. comes_past (sight run view.rank) view.rank (first_place m setup run.core.epoch run.start view.rank) after stand comes is) (by_stand stand comes)
       where
         runs : stage (happened run.core (Leave view.rank) (will_be_filled m setup run view.rank)) view.rank ≡ Running
         runs = stage_left leaving ∙ ap (λ o. if is_some o then Ended else Running) none
@@ -504,14 +543,103 @@ module _ {S L M T R B U : Type 0} (m : Meanings S L M T R) (regions : Regions S 
 
   -- a step that may lack memory
   pub stepped : {E : Type 0} (new : List Event) (rank : ℕ) (epoch : Epoch) (before : RankView L) (after : L) (stand : Stand) (r : Result Stand E) (made : Step)
-      → before.rank ≡ rank → stage (core_after m setup journal) rank ≡ Running
+      → before.rank ≡ rank → stage (core_after m setup journal) rank ≡ Running → IsOfferedSome m good setup journal rank
       → IfOk r (λ at. HasMoved m good setup journal new (holding rank after epoch at)) → OnErr r (new ≡ journal)
       → IfOk r (λ at. made ≡ steps.Moved at) → OnErr r (made ≡ steps.Short)
       → HasStepped m good setup journal new before (holding rank after epoch stand) made
-  stepped new rank epoch before after stand (Ok at) made same runs moved _ is _ =
+  stepped new rank epoch before after stand (Ok at) made same runs some moved _ is _ =
       subst (HasStepped m good setup journal new before (holding rank after epoch stand)) (sym is) moved
-  stepped new rank epoch before after stand (Err e) made same runs _ stays _ is =
-      subst (HasStepped m good setup journal new before (holding rank after epoch stand)) (sym is) (stays, ap (stage run.core) same ∙ runs)
+  stepped new rank epoch before after stand (Err e) made same runs some _ stays _ is =
+      let P : ℕ → Type 0 = IsOfferedSome m good setup journal in
+      subst (HasStepped m good setup journal new before (holding rank after epoch stand)) (sym is) (stays, (ap (stage run.core) same ∙ runs, inr (subst P (sym same) some)))
+
+  -- a rank that may step is offered an event, but for one that waits beside members who all live and have memory
+  pub offered_some : (waiting : Waiting M) → AreQueuesOf m setup (run_after m setup journal) waiting → (rank : ℕ) (epoch : Epoch) (at : Place) (local : L) → AtPlace rank epoch at local
+      → ((peer : ℕ) → next_receive at ≡ Some peer → messages waiting peer rank ≡ [] → has_dead_member (core_after m setup journal) ≡ false
+      → is_short_of_memory (core_after m setup journal) ≡ true) → IsOfferedSome m good setup journal rank
+  offered_some waiting queues rank epoch at local stands_at short =
+      elim (has_next m setup run.core.epoch run.start rank at stands_at.placed) [
+        | inl past ↦ (Arrive rank Done, record { its = refl; legal = and_both _ _ stands_at.active (ap is_past stands_at.at_is ∙ past); memory = λ is. absurd (cc) })
+        | inr other ↦ elim other [
+          | inl sends ↦ by_send (next_send at) refl sends
+          | inr receives ↦ by_receive (next_receive at) refl receives
+        ]
+      ]
+    where
+      by_send : (o : Option ℕ) → next_send at ≡ o → is_some o ≡ true → IsOfferedSome m good setup journal rank
+      by_send (Some to) next _ =
+          (Send rank to 0 0, record { its = refl; legal = and_both _ _ stands_at.active (just_same _ to (ap next_send stands_at.at_is ∙ next)); memory = λ is. absurd (cc) })
+      by_send None next some = absurd (cc)
+
+      here : (peer : ℕ) → next_receive at ≡ Some peer → waits run.core rank (place run rank) ≡ (queue run.core peer rank == 0)
+      here peer next = ap (is_empty_from run.core rank) (ap next_receive stands_at.at_is ∙ next)
+
+      by_dead : (peer : ℕ) → next_receive at ≡ Some peer → (queue run.core peer rank == 0) ≡ true → messages waiting peer rank ≡ [] → (b : Bool) → has_dead_member run.core ≡ b
+          → IsOfferedSome m good setup journal rank
+      by_dead peer next empty none true dead =
+          (Arrive rank Broken, record { its = refl; legal = and_both _ _ (and_both _ _ stands_at.active (here peer next ∙ empty)) dead; memory = λ is. absurd (cc) })
+      by_dead peer next empty none false alive = (
+        Arrive rank Memory,
+        record {
+          its = refl;
+          legal = stands_at.active;
+          memory = λ _. and_both _ _ (and_both _ _ (here peer next ∙ empty) (ap not alive)) (short peer next none alive);
+        },
+      )
+
+      by_queue : (peer : ℕ) → next_receive at ≡ Some peer → (b : Bool) → (queue run.core peer rank == 0) ≡ b → IsOfferedSome m good setup journal rank
+      by_queue peer next true empty = by_dead peer next empty
+          (nil_from_length (messages waiting peer rank)
+          (sym (queue_length run.core waiting peer rank queues.counts (queues.ranks ∙ sym lawful.steady.ranks)) ∙ eqb-true (queue run.core peer rank) 0 empty))
+          (has_dead_member run.core) refl
+      by_queue peer next false some = (
+        Recv rank peer,
+        record {
+          its = refl;
+          legal = and_both _ _ (and_both _ _ stands_at.active (just_same _ peer (ap next_receive stands_at.at_is ∙ next))) (ap not (here peer next ∙ some));
+          memory = λ is. absurd (cc);
+        },
+      )
+
+      by_receive : (o : Option ℕ) → next_receive at ≡ o → is_some o ≡ true → IsOfferedSome m good setup journal rank
+      by_receive (Some peer) next _ = by_queue peer next (queue run.core peer rank == 0) refl
+      by_receive None next some = absurd (cc)
+
+  -- so is a rank that receives next, where it is not one that waits so
+  pub receives_some : (waiting : Waiting M) → AreQueuesOf m setup (run_after m setup journal) waiting → (rank peer : ℕ) (epoch : Epoch) (at : Place) (local : L) → AtPlace rank epoch at local
+      → next_receive at ≡ Some peer
+      → (messages waiting peer rank ≡ [] → has_dead_member (core_after m setup journal) ≡ false → is_short_of_memory (core_after m setup journal) ≡ true)
+      → IsOfferedSome m good setup journal rank
+  receives_some waiting queues rank peer epoch at local stands_at next short =
+      let P : ℕ → Type 0 = λ p. messages waiting p rank ≡ [] → has_dead_member (core_after m setup journal) ≡ false → is_short_of_memory (core_after m setup journal) ≡ true in
+      offered_some waiting queues rank epoch at local stands_at (λ other receives. subst P (the_local (sym next ∙ receives)) short)
+
+  some_given : (rank : ℕ) (at : Place) → is_active run.core rank ≡ true → place run rank ≡ at
+      → (is_past at ≡ true) ⊎ ((is_some (next_send at) ≡ true) ⊎ (is_some (next_receive at) ≡ true)) → next_receive at ≡ None → IsOfferedSome m good setup journal rank
+  some_given rank at active at_is next none = elim next [
+    | inl past ↦ (Arrive rank Done, record { its = refl; legal = and_both _ _ active (ap is_past at_is ∙ past); memory = λ is. absurd (cc) })
+    | inr other ↦ elim other [
+      | inl sends ↦ by_send (next_send at) refl sends
+      | inr receives ↦ absurd (let e : true ≡ false = sym receives ∙ ap is_some none in cc)
+    ]
+  ]
+    where
+      by_send : (o : Option ℕ) → next_send at ≡ o → is_some o ≡ true → IsOfferedSome m good setup journal rank
+      by_send (Some to) sends _ =
+          (Send rank to 0 0, record { its = refl; legal = and_both _ _ active (just_same _ to (ap next_send at_is ∙ sends)); memory = λ is. absurd (cc) })
+      by_send None sends some = absurd (cc)
+
+  -- a rank that does not receive next is offered an event
+  pub gives_some : (rank : ℕ) (epoch : Epoch) (at : Place) (local : L) → AtPlace rank epoch at local → next_receive at ≡ None → IsOfferedSome m good setup journal rank
+  gives_some rank epoch at local stands_at none = some_given rank at stands_at.active stands_at.at_is (has_next m setup run.core.epoch run.start rank at stands_at.placed) none
+
+  -- so is one before its first event
+  pub opens_some : (rank : ℕ) (epoch : Epoch) (local : L) → MayStep m good setup journal (holding rank local epoch stands.Opening) → IsOfferedSome m good setup journal rank
+  opens_some rank epoch local may =
+      let agrees : Agrees m good setup (sight run rank) (holding rank local epoch stands.Opening) stands.Opening = may.at.agrees in
+      some_given rank (place run rank) (and_both _ _ (ap is_running agrees.0) (ap not may.undue)) refl
+      (has_next m setup run.core.epoch run.start rank (place run rank) (lawful.steady.placed rank))
+      (ap next_receive agrees.1.1.0 ∙ receives_later (sight run rank) rank (m.rounds setup run.core.epoch) 0)
 
 goes_where : {S L M T R : Type 0} (m : Meanings S L M T R) (good : S → Epoch → ℕ → List L → Type 0) (setup : S) (seen : Sight L) (view : RankView L) (stand : Stand)
     → Agrees m good setup seen view stand → (stand ≡ stands.Ended → ⊥) → goes_on seen.stage ≡ true
@@ -539,14 +667,14 @@ module _ {S L M T R : Type 0} (m : Meanings S L M T R) (good : S → Epoch → �
   keeps_account seen rank local epoch stands.Failed agrees = agrees
   keeps_account seen rank local epoch stands.Ended agrees = agrees
 
-  pub at_kept : (view : RankView L) (stand : Stand) → HasMoved m good setup old new (viewed view.rank view.local view.epoch stand)
+  pub at_kept : (view : RankView L) (stand : Stand) → HasTurned m good setup old new (viewed view.rank view.local view.epoch stand)
       → IsAt m good setup new (viewed view.rank (local_kept view.local stand) view.epoch stand)
   at_kept view stand moved = record {
     within = moved.at.within;
     agrees = keeps_account (sight (run_after m setup new) view.rank) view.rank view.local view.epoch stand moved.at.agrees;
   }
 
-  pub turn_taken : (view : RankView L) (stand : Stand) → HasMoved m good setup old new (viewed view.rank view.local view.epoch stand)
+  pub turn_taken : (view : RankView L) (stand : Stand) → HasTurned m good setup old new (viewed view.rank view.local view.epoch stand)
       → TookTurn m good setup old new view.rank (turn_to stand)
   turn_taken view stands.Opening moved = (goes_where m good setup (sight (run_after m setup new) view.rank) (viewed view.rank view.local view.epoch stands.Opening) stands.Opening moved.at.agrees (λ is. absurd (cc)), (moved.event, (moved.more, moved.turn)))
   turn_taken view (stands.Placed at) moved = (goes_where m good setup (sight (run_after m setup new) view.rank) (viewed view.rank view.local view.epoch (stands.Placed at)) (stands.Placed at) moved.at.agrees (λ is. absurd (cc)), (moved.event, (moved.more, moved.turn)))
@@ -565,6 +693,7 @@ module _ {S L M T R : Type 0} (m : Meanings S L M T R) (good : S → Epoch → �
     pub at : IsAt m good setup new after
     pub turn : TookTurn m good setup old new rank result
     pub moves : result ≡ turns.NotYet → ⊥
+    pub opened : after.stand ≡ stands.Opening → ⊥
 
   never_waits : (stand : Stand) → turn_to stand ≡ turns.NotYet → ⊥
   never_waits stands.Opening is = absurd (cc)
@@ -574,7 +703,7 @@ module _ {S L M T R : Type 0} (m : Meanings S L M T R) (good : S → Epoch → �
   never_waits stands.Ended is = absurd (cc)
 
   pub turn_made : (rank whose : ℕ) (local : Option L) (epoch : Epoch) (stand : Stand) (after : RankView L) (result : Turn)
-      → HasMoved m good setup old new (viewed rank local epoch stand) → after ≡ viewed rank (local_kept local stand) epoch stand → result ≡ turn_to stand → rank ≡ whose
+      → HasTurned m good setup old new (viewed rank local epoch stand) → after ≡ viewed rank (local_kept local stand) epoch stand → result ≡ turn_to stand → rank ≡ whose
       → IsMade whose after result
   turn_made rank whose local epoch stand after result moved is made same =
       let P : ℕ → Type 0 = λ r. IsMade r after result in
@@ -586,8 +715,13 @@ module _ {S L M T R : Type 0} (m : Meanings S L M T R) (good : S → Epoch → �
         at = subst (IsAt m good setup new) (sym is) (at_kept (viewed rank local epoch stand) stand moved);
         turn = turn_taken (viewed rank local epoch stand) stand moved;
         moves = never_waits stand;
+        opened = λ opens. moved.opened (sym (ap (λ v. v.stand) is) ∙ opens);
       }))
 
 pub ok_of : {X E : Type 0} (r : Result X E) {P : Type 0} → IsOk r → OnOk r P → P
 ok_of (Ok x) is holds = holds
 ok_of (Err e) fails holds = absurd (cc)
+
+pub not_ok : {X E : Type 0} (r : Result X E) (e : E) → r ≡ Err e → IsOk r → ⊥
+not_ok (Ok x) e is ok = absurd (cc)
+not_ok (Err f) e is ok = absurd (cc)

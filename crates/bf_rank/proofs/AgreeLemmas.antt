@@ -1,7 +1,6 @@
 -- A rank's account agrees with the run through other ranks' events and through decisions.
 use Rattle.std.proofs.Common.{◌≡◌, ◌≢◌, ℕ, ◌<◌, Bool, true, false, cond, ◌||◌, not, List, [], ◌∷◌, map, filter, arith, refl, sym, subst, ◌∙◌, ap}
 use Rattle.std.specs.Prelude.{◌==◌, Option, Some, None, is_some, if◌then◌else◌}
-use Rattle.std.proofs.lemmas.Bool.{eq-eqb}
 use Rattle.std.proofs.lemmas.List.{get_or-set_other}
 use Rattle.bf_buddy.specs.Members.{is_member}
 use Rattle.bf_program.specs.declared.epoch.Epoch.{Epoch}
@@ -24,7 +23,7 @@ use Rattle.bf_core.specs.Stages.{is_awaited, is_short, is_gone, goes_on, lives, 
 use Rattle.bf_core.specs.States.{State, stage, live_members, is_short_of_memory, first_lost}
 use Rattle.bf_core.specs.Legal.{actor, is_legal}
 use Rattle.bf_core.specs.Next.{may_decide, happened, is_ripe, is_everyone_done, decision, decision_where, decided, dissolved, ended, committed, restored}
-use Rattle.bf_core.proofs.LawLemmas.{IsStep, step_of, IsSameEpoch, same_epoch, second_of_two}
+use Rattle.bf_core.proofs.LawLemmas.{IsStep, step_of, IsSameEpoch, same_epoch, running_where_ripe, second_of_two}
 use Rattle.bf_core.specs.declared.event.How.{How}
 use Rattle.bf_core.proofs.StageLemmas.{nobody, nobody_any, stage_dissolved}
 use Rattle.bf_core.proofs.ListLemmas.{all_at}
@@ -35,6 +34,7 @@ use Rattle.bf_world.specs.Runs.{Run, place, begun, first_places, last_locals, wi
 use Rattle.bf_rank.specs.declared.stand.Stand.{Stand}
 use Rattle.bf_rank.specs.declared.stand.Stand.TheVariants as stands
 use Rattle.bf_rank.specs.Ranks.{RankView, Sight, sight, IsSaved, WillBegin, HasLocal, Agrees}
+use Rattle.bf_rank.proofs.ArriveLemmas.{saved_at, saved_done}
 
 module _ {S L M T R : Type 0} (m : Meanings S L M T R) (good : S → Epoch → ℕ → List L → Type 0) (setup : S) where
   -- another rank's event, before any decision, changes nothing that concerns a rank
@@ -104,28 +104,36 @@ module _ {S L M T R : Type 0} (m : Meanings S L M T R) (good : S → Epoch → �
         chosen ∙ ap Some (sym (saves.alone local saved.first rank (restored_epoch (λ r. lives (stage run.core r)) run.core.epoch) saved.same)),
       )
 
-  -- a decided run that ends: who has arrived must leave, and nothing is said of what it has
+  -- a decided run that ends: who has arrived must leave, and where it finishes has what it had
   agrees_ended : (run : Run L T) (outcome : Outcome) (view : RankView L) (stand : Stand) → is_awaited (stage run.core view.rank) ≡ false
+      → (outcome ≡ outcomes.Finished → (is_gone (stage run.core view.rank) || has_finished_rounds (stage run.core view.rank)) ≡ true)
       → Agrees m good setup (sight run view.rank) view stand → Agrees m good setup (sight (record run { core = ended run.core outcome }) view.rank) view stand
   unfolding dissolved
-  agrees_ended run outcome view stands.Opening awaits agrees = absurd (let e : true ≡ false = sym (ap is_awaited agrees.0) ∙ awaits in cc)
-  agrees_ended run outcome view (stands.Placed at) awaits agrees = absurd (let e : true ≡ false = sym (ap is_awaited agrees.0) ∙ awaits in cc)
-  agrees_ended run outcome view stands.Failed awaits agrees = absurd (let e : true ≡ false = sym (ap is_awaited agrees) ∙ awaits in cc)
-  agrees_ended run outcome view stands.Ended awaits agrees = ap goes_on (stage_dissolved run.core view.rank) ∙ rests_on (stage run.core view.rank) agrees
-  agrees_ended run outcome view stands.Arrived awaits agrees =
+  agrees_ended run outcome view stands.Opening awaits done agrees = absurd (let e : true ≡ false = sym (ap is_awaited agrees.0) ∙ awaits in cc)
+  agrees_ended run outcome view (stands.Placed at) awaits done agrees = absurd (let e : true ≡ false = sym (ap is_awaited agrees.0) ∙ awaits in cc)
+  agrees_ended run outcome view stands.Failed awaits done agrees = absurd (let e : true ≡ false = sym (ap is_awaited agrees) ∙ awaits in cc)
+  agrees_ended run outcome view stands.Ended awaits done agrees = ap goes_on (stage_dissolved run.core view.rank) ∙ rests_on (stage run.core view.rank) agrees
+  agrees_ended run outcome view stands.Arrived awaits done agrees =
       let P : Stage → Type 0 = HasLocal m good setup (sight (record run { core = ended run.core outcome }) view.rank) view in
-      subst P (sym (stage_dissolved run.core view.rank)) (by_stage (stage run.core view.rank) awaits agrees)
+      subst P (sym (stage_dissolved run.core view.rank)) (by_stage (stage run.core view.rank) refl awaits agrees)
     where
-      by_stage : (s : Stage) → is_awaited s ≡ false → HasLocal m good setup (sight run view.rank) view s
+      the : {a b : Outcome} → Some a ≡ Some b → a ≡ b
+      the {a = a} same = ap (λ o. elim o [ Some v ↦ v | None ↦ a ]) same
+
+      unfinished : (s : Stage) → stage run.core view.rank ≡ s → (is_gone s || has_finished_rounds s) ≡ false → Some outcome ≡ Some outcomes.Finished → ⊥
+      unfinished s at undone ends =
+          let e : true ≡ false = sym (done (the ends)) ∙ ap (λ t. is_gone t || has_finished_rounds t) at ∙ undone in cc
+
+      by_stage : (s : Stage) → stage run.core view.rank ≡ s → is_awaited s ≡ false → HasLocal m good setup (sight run view.rank) view s
           → HasLocal m good setup (sight (record run { core = ended run.core outcome }) view.rank) view (after_decision s)
-      by_stage (Arrived Done filled) quiet has = λ none. absurd (cc)
-      by_stage (Arrived Broken filled) quiet has = λ none. absurd (cc)
-      by_stage (Arrived Memory filled) quiet has = λ none. absurd (cc)
-      by_stage Leaving quiet has = absurd (cc)
-      by_stage Running quiet has = absurd has
-      by_stage Ended quiet has = absurd has
-      by_stage Dead quiet has = absurd has
-      by_stage Gone quiet has = absurd has
+      by_stage (Arrived Done filled) at quiet (local, (its, has)) = ((λ none. absurd (cc)), (λ ends. (local, (its, record { last = has.last; its = has.its; here = has.here }))))
+      by_stage (Arrived Broken filled) at quiet has = ((λ none. absurd (cc)), (λ ends. absurd (unfinished (Arrived Broken filled) at refl ends)))
+      by_stage (Arrived Memory filled) at quiet has = ((λ none. absurd (cc)), (λ ends. absurd (unfinished (Arrived Memory filled) at refl ends)))
+      by_stage Leaving at quiet has = absurd (cc)
+      by_stage Running at quiet has = absurd has
+      by_stage Ended at quiet has = absurd has
+      by_stage Dead at quiet has = absurd has
+      by_stage Gone at quiet has = absurd has
 
   -- a rank stands at its first place where an epoch begins
   pub begun_place : (core : State) (start : List L) (parcels : List (ℕ × T)) (rank : ℕ) → rank < m.ranks setup
@@ -135,22 +143,23 @@ module _ {S L M T R : Type 0} (m : Meanings S L M T R) (good : S → Epoch → �
       get_or-map-range_with_len (first_place m setup core.epoch start) 0 (m.ranks setup) rank rank Past ranked (omega arith)
 
   -- a decision that begins an epoch: whoever has arrived has what it begins with
-  agrees_begun : (run : Run L T) (core : State) (start : List L) (parcels : List (ℕ × T)) (view : RankView L) (stand : Stand) → view.rank < m.ranks setup → is_awaited (stage run.core view.rank) ≡ false
+  agrees_begun : (run : Run L T) (core : State) (start : List L) (parcels : List (ℕ × T)) (view : RankView L) (stand : Stand) → core.outcome ≡ None → view.rank < m.ranks setup → is_awaited (stage run.core view.rank) ≡ false
       → stage core view.rank ≡ after_decision (stage run.core view.rank)
       → ((how : How) (filled : Bool) → stage run.core view.rank ≡ Arrived how filled → HasLocal m good setup (sight run view.rank) view (Arrived how filled)
       → (local : L) × ((view.local ≡ Some local) × WillBegin m good setup core.epoch.restored (sight (begun m setup core start parcels) view.rank) view.rank local))
       → Agrees m good setup (sight run view.rank) view stand → Agrees m good setup (sight (begun m setup core start parcels) view.rank) view stand
-  agrees_begun run core start parcels view stands.Opening ranked awaits same begins agrees = absurd (let e : true ≡ false = sym (ap is_awaited agrees.0) ∙ awaits in cc)
-  agrees_begun run core start parcels view (stands.Placed at) ranked awaits same begins agrees = absurd (let e : true ≡ false = sym (ap is_awaited agrees.0) ∙ awaits in cc)
-  agrees_begun run core start parcels view stands.Failed ranked awaits same begins agrees = absurd (let e : true ≡ false = sym (ap is_awaited agrees) ∙ awaits in cc)
-  agrees_begun run core start parcels view stands.Ended ranked awaits same begins agrees = ap goes_on same ∙ rests_on (stage run.core view.rank) agrees
-  agrees_begun run core start parcels view stands.Arrived ranked awaits same begins agrees =
+  agrees_begun run core start parcels view stands.Opening on ranked awaits same begins agrees = absurd (let e : true ≡ false = sym (ap is_awaited agrees.0) ∙ awaits in cc)
+  agrees_begun run core start parcels view (stands.Placed at) on ranked awaits same begins agrees = absurd (let e : true ≡ false = sym (ap is_awaited agrees.0) ∙ awaits in cc)
+  agrees_begun run core start parcels view stands.Failed on ranked awaits same begins agrees = absurd (let e : true ≡ false = sym (ap is_awaited agrees) ∙ awaits in cc)
+  agrees_begun run core start parcels view stands.Ended on ranked awaits same begins agrees = ap goes_on same ∙ rests_on (stage run.core view.rank) agrees
+  agrees_begun run core start parcels view stands.Arrived on ranked awaits same begins agrees =
       let P : Stage → Type 0 = HasLocal m good setup (sight (begun m setup core start parcels) view.rank) view in
       subst P (sym same) (by_stage (stage run.core view.rank) refl awaits agrees)
     where
       by_stage : (s : Stage) → stage run.core view.rank ≡ s → is_awaited s ≡ false → HasLocal m good setup (sight run view.rank) view s
           → HasLocal m good setup (sight (begun m setup core start parcels) view.rank) view (after_decision s)
-      by_stage (Arrived how filled) at quiet has = λ none. (begun_place core start parcels view.rank ranked, begins how filled at has)
+      by_stage (Arrived how filled) at quiet has =
+          ((λ none. (begun_place core start parcels view.rank ranked, begins how filled at has)), (λ ends. absurd (let e : None ≡ Some outcomes.Finished = sym on ∙ ends in cc)))
       by_stage Leaving at quiet has = absurd (cc)
       by_stage Running at quiet has = absurd has
       by_stage Ended at quiet has = absurd has
@@ -159,56 +168,57 @@ module _ {S L M T R : Type 0} (m : Meanings S L M T R) (good : S → Epoch → �
 
   -- a commit that begins an epoch
   agrees_committed : (run : Run L T) (parcels : List (ℕ × T)) (view : RankView L) (stand : Stand) → view.rank < m.ranks setup → is_awaited (stage run.core view.rank) ≡ false
-      → is_everyone_done run.core ≡ true → (run.core.epoch.target == run.core.steps) ≡ false
+      → run.core.outcome ≡ None → is_everyone_done run.core ≡ true → (run.core.epoch.target == run.core.steps) ≡ false
       → Agrees m good setup (sight run view.rank) view stand
       → Agrees m good setup (sight (begun m setup (committed run.core) (map m.keep (last_locals m setup run)) parcels) view.rank) view stand
   unfolding dissolved last_locals
-  agrees_committed run parcels view stand ranked awaits done unended agrees =
-      agrees_begun run (committed run.core) (map m.keep (last_locals m setup run)) parcels view stand ranked awaits (stage_dissolved run.core view.rank) begins agrees
+  agrees_committed run parcels view stand ranked awaits none done unended agrees =
+      agrees_begun run (committed run.core) (map m.keep (last_locals m setup run)) parcels view stand none ranked awaits (stage_dissolved run.core view.rank) begins agrees
     where
       finished : (is_gone (stage run.core view.rank) || has_finished_rounds (stage run.core view.rank)) ≡ true
       finished = all_at (λ s. is_gone s.stage || has_finished_rounds s.stage) run.core.standings view.rank nobody refl done
 
-      goes : run.core.epoch.target ≢ run.core.steps
-      goes same = let e : true ≡ false = sym (eq-eqb run.core.epoch.target run.core.steps same) ∙ unended in cc
-
       begins : (how : How) (filled : Bool) → stage run.core view.rank ≡ Arrived how filled → HasLocal m good setup (sight run view.rank) view (Arrived how filled)
           → (local : L) × ((view.local ≡ Some local) × WillBegin m good setup false (sight (begun m setup (committed run.core) (map m.keep (last_locals m setup run)) parcels) view.rank) view.rank local)
-      begins Done filled at (local, (its, has)) = (local, (its, kept_begins run parcels view.rank local (has.last refl goes)))
+      begins Done filled at (local, (its, has)) =
+          (local, (its, kept_begins run parcels view.rank local (has.its ∙ ap Some (sym (has.here ∙ ap (λ b. if b then (m.parcel has.last).0 else has.last) unended)))))
       begins Broken filled at has = absurd (let e : false ≡ true = ap (λ s. is_gone s || has_finished_rounds s) (sym at) ∙ finished in cc)
       begins Memory filled at has = absurd (let e : false ≡ true = ap (λ s. is_gone s || has_finished_rounds s) (sym at) ∙ finished in cc)
 
   -- a restore
   agrees_restored : (run : Run L T) (view : RankView L) (stand : Stand) → view.rank < m.ranks setup → is_awaited (stage run.core view.rank) ≡ false
-      → good setup run.core.epoch 0 run.start → is_short_of_memory run.core ≡ false
+      → run.core.outcome ≡ None → good setup run.core.epoch 0 run.start → is_short_of_memory run.core ≡ false
       → Agrees m good setup (sight run view.rank) view stand
       → Agrees m good setup (sight (begun m setup (restored run.core) (restored_locals m setup run.core.epoch (λ r. lives (stage run.core r)) run.start) []) view.rank) view stand
   unfolding dissolved
-  agrees_restored run view stand ranked awaits is_good fits agrees =
-      agrees_begun run (restored run.core) (restored_locals m setup run.core.epoch (λ r. lives (stage run.core r)) run.start) [] view stand ranked awaits (stage_dissolved run.core view.rank) begins agrees
+  agrees_restored run view stand ranked awaits none is_good fits agrees =
+      agrees_begun run (restored run.core) (restored_locals m setup run.core.epoch (λ r. lives (stage run.core r)) run.start) [] view stand none ranked awaits (stage_dissolved run.core view.rank) begins agrees
     where
       begins : (how : How) (filled : Bool) → stage run.core view.rank ≡ Arrived how filled → HasLocal m good setup (sight run view.rank) view (Arrived how filled)
           → (local : L) × ((view.local ≡ Some local) × WillBegin m good setup true
           (sight (begun m setup (restored run.core) (restored_locals m setup run.core.epoch (λ r. lives (stage run.core r)) run.start) []) view.rank) view.rank local)
-      begins Done filled at (local, (its, has)) = (local, (its, restored_begins run view.rank local is_good (ap lives at) has.saved))
-      begins Broken filled at (local, (its, has)) = (local, (its, restored_begins run view.rank local is_good (ap lives at) has.saved))
+      begins Done filled at (local, (its, has)) =
+          (local, (its, restored_begins run view.rank local is_good (ap lives at) (saved_done m good setup saves (sight run view.rank) view.rank local has)))
+      begins Broken filled at (local, (its, has)) =
+          (local, (its, restored_begins run view.rank local is_good (ap lives at) (saved_at m good setup saves (sight run view.rank) view.rank (place run view.rank) local has)))
       begins Memory filled at has = absurd (let e : true ≡ false = sym (ap is_short at) ∙ nobody_any is_short run.core refl fits view.rank in cc)
 
   -- a decision
   agrees_decided : (run : Run L T) (made : Decision) (view : RankView L) (stand : Stand) → view.rank < m.ranks setup → is_awaited (stage run.core view.rank) ≡ false
-      → good setup run.core.epoch 0 run.start → (made ≡ Commit → is_everyone_done run.core ≡ true) → (made ≡ Restore → is_short_of_memory run.core ≡ false)
+      → run.core.outcome ≡ None → good setup run.core.epoch 0 run.start → (made ≡ Commit → is_everyone_done run.core ≡ true) → (made ≡ Restore → is_short_of_memory run.core ≡ false)
       → Agrees m good setup (sight run view.rank) view stand → Agrees m good setup (sight (run_decided m setup run made) view.rank) view stand
   unfolding decided
-  agrees_decided run (Lose home buddy) view stand ranked awaits is_good all_done fits agrees = agrees_ended run (outcomes.Lost run.core.epoch.time home buddy) view stand awaits agrees
-  agrees_decided run WantMemory view stand ranked awaits is_good all_done fits agrees = agrees_ended run outcomes.Memory view stand awaits agrees
-  agrees_decided run Commit view stand ranked awaits is_good all_done fits agrees = at_end (run.core.epoch.target == run.core.steps) refl
+  agrees_decided run (Lose home buddy) view stand ranked awaits none is_good all_done fits agrees = agrees_ended run (outcomes.Lost run.core.epoch.time home buddy) view stand awaits (λ finishes. absurd (cc)) agrees
+  agrees_decided run WantMemory view stand ranked awaits none is_good all_done fits agrees = agrees_ended run outcomes.Memory view stand awaits (λ finishes. absurd (cc)) agrees
+  agrees_decided run Commit view stand ranked awaits none is_good all_done fits agrees = at_end (run.core.epoch.target == run.core.steps) refl
     where
       at_end : (b : Bool) → (run.core.epoch.target == run.core.steps) ≡ b
           → Agrees m good setup (sight (if b then record run { core = if b then ended run.core outcomes.Finished else committed run.core }
           else begun m setup (if b then ended run.core outcomes.Finished else committed run.core) (map m.keep (last_locals m setup run)) run.parcels) view.rank) view stand
-      at_end true ends = agrees_ended run outcomes.Finished view stand awaits agrees
-      at_end false unended = agrees_committed run run.parcels view stand ranked awaits (all_done refl) unended agrees
-  agrees_decided run Restore view stand ranked awaits is_good all_done fits agrees = agrees_restored run view stand ranked awaits is_good (fits refl) agrees
+      at_end true ends = agrees_ended run outcomes.Finished view stand awaits
+          (λ _. all_at (λ s. is_gone s.stage || has_finished_rounds s.stage) run.core.standings view.rank nobody refl (all_done refl)) agrees
+      at_end false unended = agrees_committed run run.parcels view stand ranked awaits none (all_done refl) unended agrees
+  agrees_decided run Restore view stand ranked awaits none is_good all_done fits agrees = agrees_restored run view stand ranked awaits none is_good (fits refl) agrees
 
   -- a restore is decided where nobody wants memory
   restore_fits : (state : State) → decision state ≡ Restore → is_short_of_memory state ≡ false
@@ -241,6 +251,7 @@ module _ {S L M T R : Type 0} (m : Meanings S L M T R) (good : S → Epoch → �
       by_ripe true ripe = agrees_decided (run_happened m setup run event) (decision (happened run.core event (will_be_filled m setup run (actor event)))) view stand ranked
           (nobody_any is_awaited (happened run.core event (will_be_filled m setup run (actor event))) refl
           (unnot _ (second_of_two (not (is_some (happened run.core event (will_be_filled m setup run (actor event))).outcome)) _ ripe)) view.rank)
+          (running_where_ripe (happened run.core event (will_be_filled m setup run (actor event))) ripe)
           still_good
           (commit_when_done (happened run.core event (will_be_filled m setup run (actor event))))
           (restore_fits (happened run.core event (will_be_filled m setup run (actor event))))

@@ -1,6 +1,6 @@
 -- What a rank's account gives for its arrivals, its leaves and its waiting.
 use Rattle.std.proofs.Common.{◌≡◌, ℕ, Bool, true, false, cond, ◌&&◌, not, List, [], ◌∷◌, length, nat_lt, refl, sym, ◌∙◌, ap}
-use Rattle.std.specs.Prelude.{Option, Some, None, slice_get, if◌then◌else◌}
+use Rattle.std.specs.Prelude.{◌==◌, Option, Some, None, slice_get, if◌then◌else◌}
 use Rattle.std.proofs.lemmas.Bool.{eq-eqb, ltb-false}
 use Rattle.std.proofs.lemmas.Option.{slice_get_past}
 use Rattle.bf_program.specs.declared.epoch.Epoch.{Epoch}
@@ -20,7 +20,7 @@ use Rattle.bf_core.specs.Places.{is_just, next_send, next_receive, is_past}
 use Rattle.bf_core.specs.States.{State, stage, queue, is_active, is_due, has_dead_member, is_short_of_memory}
 use Rattle.bf_core.specs.Legal.{is_legal, is_empty_from, waits, actor, IsOffered}
 use Rattle.bf_world.specs.Runs.{Run, place, will_be_filled, parcel_of, parcel_with}
-use Rattle.bf_rank.specs.Ranks.{Sight, sight, IsLocalAt, IsSaved, HasArrived}
+use Rattle.bf_rank.specs.Ranks.{Sight, sight, IsLocalAt, IsSaved, HasFinished}
 
 module _ {S L M T R : Type 0} (m : Meanings S L M T R) (good : S → Epoch → ℕ → List L → Type 0) (setup : S) where
   -- the last local tells whether the part of the new snapshot is filled, and gives the parcel
@@ -53,22 +53,33 @@ module _ {S L M T R : Type 0} (m : Meanings S L M T R) (good : S → Epoch → �
       by_sent true = reads_sends m setup saves seen.epoch round here.first sent
       by_sent false = reads_receives m setup saves seen.epoch round (lockstep m setup seen.epoch seen.start round) rank here.first received
 
-  -- who arrives broken has the agreed snapshot
-  pub arrives_broken : (at : Place) (local : L) → IsLocalAt m good setup seen rank at local → HasArrived m good setup seen rank Broken local
-  arrives_broken at local here = record { saved = saved_at at local here; last = λ same. absurd (cc) }
+  -- whoever has arrived done has it too
+  pub saved_done : (local : L) → HasFinished m good setup seen rank local → IsSaved m good setup seen rank local
+  saved_done local has =
+      let from : (first : L) × ((local_of seen.epoch.members seen.start rank ≡ Some first) × (m.reads has.last ≡ m.reads first)) =
+      reads_lockstep m setup saves seen.epoch seen.start rank (m.rounds setup seen.epoch) has.last has.its in
+      record { first = from.0; its = from.1.0; same = ap m.reads has.here ∙ by_end (seen.epoch.target == seen.steps) ∙ from.1.1 }
+    where
+      by_end : (b : Bool) → m.reads (if b then (m.parcel has.last).0 else has.last) ≡ m.reads has.last
+      by_end true = saves.parcel has.last
+      by_end false = refl
 
-  -- who arrives done before the last epoch has its last local too
-  pub arrives_done : (local : L) → IsLocalAt m good setup seen rank Past local → HasArrived m good setup seen rank Done local
-  arrives_done local here = record { saved = saved_at Past local here; last = λ _ _. here.its ∙ ap Some (sym here.here) }
+module _ {S L M T R : Type 0} (m : Meanings S L M T R) (good : S → Epoch → ℕ → List L → Type 0) (setup : S) (seen : Sight L) (rank : ℕ) where
+  -- who arrives done before the last epoch has its last local
+  pub arrives_done : (local : L) → IsLocalAt m good setup seen rank Past local → (seen.epoch.target == seen.steps) ≡ false → HasFinished m good setup seen rank local
+  arrives_done local here goes = record {
+    last = here.first;
+    its = here.its;
+    here = here.here ∙ ap (λ b. if b then (m.parcel here.first).0 else here.first) (sym goes);
+  }
 
-  -- and who has given its parcel in the last epoch the agreed snapshot
-  pub arrives_with_parcel : (local : L) → IsLocalAt m good setup seen rank Past local → seen.epoch.target ≡ seen.steps → HasArrived m good setup seen rank Done (m.parcel local).0
-  arrives_with_parcel local here ends =
-      let saved : IsSaved m good setup seen rank local = saved_at Past local here in
-      record {
-        saved = record { first = saved.first; its = saved.its; same = saves.parcel local ∙ saved.same };
-        last = λ _ goes. absurd (goes ends);
-      }
+  -- and who has given its parcel in the last epoch what the parcel leaves of it
+  pub arrives_with_parcel : (local : L) → IsLocalAt m good setup seen rank Past local → (seen.epoch.target == seen.steps) ≡ true → HasFinished m good setup seen rank (m.parcel local).0
+  arrives_with_parcel local here ends = record {
+    last = here.first;
+    its = here.its;
+    here = ap (λ l. (m.parcel l).0) here.here ∙ ap (λ b. if b then (m.parcel here.first).0 else here.first) (sym ends);
+  }
 
 first_of_two : (a b : Bool) → (a && b) ≡ true → a ≡ true
 first_of_two true b holds = refl

@@ -1,13 +1,14 @@
 -- What a rank holds, as the journal tells it.
-use Rattle.std.specs.Prelude.{◌≡◌, ◌≢◌, ℕ, ◌<◌, Bool, true, false, cond, nat_lt, IsTrue, ◌⊎◌, List, [], ◌∷◌, ◌++◌, length, Option, Some, None}
+use Rattle.std.specs.Prelude.{◌≡◌, ℕ, ◌<◌, Bool, true, false, cond, nat_lt, IsTrue, ◌⊎◌, ◌==◌, if◌then◌else◌, List, [], ◌∷◌, ◌++◌, length, Option, Some, None}
 use Rattle.bf_program.specs.declared.epoch.Epoch.{Epoch}
 use Rattle.bf_program.specs.Meanings.{Meanings}
 use Rattle.bf_program.specs.Lockstep.{local_of, after_sends, after_receives, lockstep}
 use Rattle.bf_program.specs.Points.{IsRestoring}
 use Rattle.bf_core.specs.declared.event.Event.{Event}
-use Rattle.bf_core.specs.declared.event.How.{How}
+use Rattle.bf_core.specs.declared.event.Event.TheVariants.{Arrive, Die}
 use Rattle.bf_core.specs.declared.event.How.TheVariants.{Done, Broken, Memory}
 use Rattle.bf_core.specs.declared.outcome.Outcome.{Outcome}
+use Rattle.bf_core.specs.declared.outcome.Outcome.TheVariants.{Finished}
 use Rattle.bf_core.specs.declared.place.Place.{Place}
 use Rattle.bf_core.specs.declared.place.Place.TheVariants.{Rounds, Past}
 use Rattle.bf_core.specs.declared.standing.Stage.{Stage}
@@ -67,11 +68,12 @@ module _ {S L M T R : Type 0} (m : Meanings S L M T R) (good : S → Epoch → �
     pub its : local_of seen.epoch.members seen.start rank ≡ Some first
     pub same : m.reads local ≡ m.reads first
 
-  -- what a rank has that has arrived in an epoch that is not decided: the agreed snapshot, and where it is done and another epoch
-  -- may follow, the lockstep's last local
-  pub record HasArrived (seen : Sight L) (rank : ℕ) (how : How) (local : L) : Type 0 where
-    pub saved : IsSaved seen rank local
-    pub last : how ≡ Done → seen.epoch.target ≢ seen.steps → local_at m setup seen.epoch seen.start rank (m.rounds setup seen.epoch) ≡ Some local
+  -- what a rank has that has arrived with all rounds done: the lockstep's last local, in the last epoch less the parcel that it
+  -- has given
+  pub record HasFinished (seen : Sight L) (rank : ℕ) (local : L) : Type 0 where
+    pub last : L
+    pub its : local_at m setup seen.epoch seen.start rank (m.rounds setup seen.epoch) ≡ Some last
+    pub here : local ≡ (if seen.epoch.target == seen.steps then (m.parcel last).0 else last)
 
   -- what a rank has that must leave into a running epoch: keeping or restoring gives the local with which it begins
   abbrev pub WillBegin : (restored : Bool) → Sight L → (rank : ℕ) → L → Type 0
@@ -79,13 +81,16 @@ module _ {S L M T R : Type 0} (m : Meanings S L M T R) (good : S → Epoch → �
   WillBegin true seen rank local =
       IsRestoring m good setup seen.epoch rank local × (local_of seen.epoch.members seen.start rank ≡ Some (m.restore setup local rank seen.epoch))
 
-  -- what a rank has that has arrived, by its stage; nothing is said where it wanted memory or the run has ended
+  -- what a rank has that has arrived, by its stage: done, the last local less the parcel that it has given; broken, its local at
+  -- its place; nothing is said where it wanted memory, nor of a run that has ended otherwise than finished
   abbrev pub HasLocal : Sight L → RankView L → Stage → Type 0
-  HasLocal seen view (Arrived Done filled) = (local : L) × ((view.local ≡ Some local) × HasArrived seen view.rank Done local)
-  HasLocal seen view (Arrived Broken filled) = (local : L) × ((view.local ≡ Some local) × HasArrived seen view.rank Broken local)
+  HasLocal seen view (Arrived Done filled) = (local : L) × ((view.local ≡ Some local) × HasFinished seen view.rank local)
+  HasLocal seen view (Arrived Broken filled) = (local : L) × ((view.local ≡ Some local) × IsLocalAt seen view.rank seen.place local)
   HasLocal seen view (Arrived Memory filled) = Unit {0}
-  HasLocal seen view Leaving = seen.outcome ≡ None
-      → (seen.place ≡ first_place m setup seen.epoch seen.start view.rank) × ((local : L) × ((view.local ≡ Some local) × WillBegin seen.epoch.restored seen view.rank local))
+  HasLocal seen view Leaving =
+      (seen.outcome ≡ None → (seen.place ≡ first_place m setup seen.epoch seen.start view.rank)
+      × ((local : L) × ((view.local ≡ Some local) × WillBegin seen.epoch.restored seen view.rank local)))
+      × (seen.outcome ≡ Some Finished → (local : L) × ((view.local ≡ Some local) × HasFinished seen view.rank local))
   HasLocal seen view Running = ⊥
   HasLocal seen view Ended = ⊥
   HasLocal seen view Dead = ⊥
@@ -113,6 +118,10 @@ module _ {S L M T R : Type 0} (m : Meanings S L M T R) (good : S → Epoch → �
     pub its : actor event ≡ rank
     pub offered : IsOffered (run_after m setup journal).core rank (place (run_after m setup journal) rank) event ⊎ IsTrue (is_memory event)
 
+  -- some event is offered to a rank
+  abbrev pub IsOfferedSome : (journal : List Event) (rank : ℕ) → Type 0
+  IsOfferedSome journal rank = (event : Event) × IsOffered (run_after m setup journal).core rank (place (run_after m setup journal) rank) event
+
   -- what a turn came to: one event more, and the rank goes on; or none, where none is offered; or the rank has ended, by one event
   -- more or before
   abbrev pub TookTurn : (old new : List Event) (rank : ℕ) → Turn → Type 0
@@ -123,3 +132,11 @@ module _ {S L M T R : Type 0} (m : Meanings S L M T R) (good : S → Epoch → �
   TookTurn old new rank turns.Ended =
       (goes_on (stage (run_after m setup new).core rank) ≡ false)
       × ((new ≡ old) ⊎ ((event : Event) × ((new ≡ old ++ event ∷ []) × IsTurn old rank event)))
+
+-- an arrival of a rank for want of memory
+abbrev pub short_arrival : (rank : ℕ) → Event
+short_arrival rank = Arrive rank Memory
+
+-- the next event of a rank that has failed: its death where that is due, else its arrival for want of memory
+abbrev pub event_of_failed : (due : Bool) (rank : ℕ) → Event
+event_of_failed due rank = if due then Die rank else short_arrival rank

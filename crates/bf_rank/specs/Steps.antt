@@ -1,5 +1,5 @@
 -- What one step of a rank asks and does.
-use Rattle.std.specs.Prelude.{◌≡◌, ℕ, ◌<◌, ◌≤◌, ◌+◌, ◌-◌, false, List, [], ◌∷◌, ◌++◌, length, Option, Some, None, slice_get}
+use Rattle.std.specs.Prelude.{◌≡◌, ℕ, ◌<◌, ◌≤◌, ◌+◌, ◌-◌, false, ◌⊎◌, List, [], ◌∷◌, ◌++◌, length, Option, Some, None, slice_get}
 use Rattle.bf_program.specs.declared.epoch.Epoch.{Epoch}
 use Rattle.bf_program.specs.Meanings.{Meanings}
 use Rattle.bf_program.specs.Points.{IsFinishing}
@@ -17,7 +17,7 @@ use Rattle.bf_rank.specs.declared.stand.Step.{Step}
 use Rattle.bf_rank.specs.declared.stand.Step.TheVariants.{Moved, NotYet, Short}
 use Rattle.bf_rank.specs.declared.stand.Turn.{Turn}
 use Rattle.bf_rank.specs.declared.stand.Turn.TheVariants as turns
-use Rattle.bf_rank.specs.Ranks.{RankView, Sight, IsLocalAt, WillBegin, IsAt, IsTurn}
+use Rattle.bf_rank.specs.Ranks.{RankView, Sight, IsLocalAt, WillBegin, IsAt, IsOfferedSome}
 
 -- a rank that has a local
 abbrev pub holding : {L : Type 0} → (rank : ℕ) → L → Epoch → Stand → RankView L
@@ -115,17 +115,21 @@ module _ {S L M T R : Type 0} (m : Meanings S L M T R) (good : S → Epoch → �
     pub at : IsAt m good setup journal view
     pub undue : is_due (run_after m setup journal).core view.rank ≡ false
 
-  -- one event more of a rank, which has made all its turns then
+  -- one event more of a rank, that it was offered; it has made all its turns then, and is past its opening
   pub record HasMoved (old new : List Event) (view : RankView L) : Type 0 where
     pub event : Event
     pub more : new ≡ old ++ event ∷ []
-    pub turn : IsTurn m good setup old view.rank event
+    pub offered : IsOffered (run_after m setup old).core view.rank (place (run_after m setup old) view.rank) event
+    pub opened : view.stand ≡ Opening → ⊥
     pub at : IsAt m good setup new view
 
-  -- what a step came to: one event more; or none, where none is offered; or none for want of memory, before the rank has arrived
+  -- what a step came to: one event more; or none, where none is offered; or none for want of memory, before the rank has arrived,
+  -- where it has failed or is offered an event
   abbrev pub HasStepped : (old new : List Event) (before after : RankView L) → Step → Type 0
   HasStepped old new before after (Moved stand) = HasMoved old new (standing_at after stand)
   HasStepped old new before after NotYet =
       (new ≡ old) × ((after ≡ before)
       × ((event : Event) → IsOffered (run_after m setup old).core before.rank (place (run_after m setup old) before.rank) event → ⊥))
-  HasStepped old new before after Short = (new ≡ old) × (stage (run_after m setup old).core before.rank ≡ Running)
+  HasStepped old new before after Short =
+      (new ≡ old) × ((stage (run_after m setup old).core before.rank ≡ Running)
+      × ((before.stand ≡ Failed) ⊎ IsOfferedSome m good setup old before.rank))

@@ -1,10 +1,12 @@
-ghost use Rattle.std.specs.Prelude.{◌≡◌, ℕ, ◌+◌, ◌<◌, false, [], ◌∷◌, Some, None, IfOk, OnErr, length, OnOk};
+ghost use Rattle.std.specs.Prelude.{◌≡◌, ℕ, ◌+◌, ◌<◌, false, [], ◌∷◌, ◌++◌, Some, None, IfOk, OnErr, length, OnOk};
 ghost use Rattle.std.specs.List.{range_with_len};
 ghost use Rattle.bf_program.specs.Epochs.{first_epoch};
 ghost use Rattle.bf_program.specs.Lockstep.{local_of};
 ghost use Rattle.bf_core.specs.Places.{next_send, next_receive};
 ghost use Rattle.bf_world.specs.Course.{after_receive, first_place};
-ghost use Rattle.bf_rank.specs.Ranks.{Sight, RankView, IsAt, TookTurn};
+ghost use Rattle.bf_rank.specs.Ranks.{Sight, RankView, IsAt, IsOfferedSome, TookTurn, event_of_failed, short_arrival};
+ghost use Rattle.bf_core.specs.States.{is_due};
+ghost use Rattle.bf_world.specs.Worlds.{core_after};
 ghost use Rattle.bf_rank.specs.Steps.{holding, viewed, local_kept, turn_to, standing_at, Begins, HasPassed, Follows, EndsRound, TakesNext, ComesTo, IsBeginning, Gives, MayStep, HasMoved, HasStepped};
 
 use crate::stand::Step;
@@ -402,6 +404,7 @@ fn go_on<P: RankProgram>(
     ensures stepped { HasStepped P.meanings P.good setup.now world.old.journal world.new.journal
         (holding rank local.old epoch.now (Stand.Placed place)) (holding rank local.new epoch.now (Stand.Placed place)) result }
 {
+    world.known();
     if let Some(peer) = place.next_receive() {
         return receive::<P>(alloc, setup, rank, epoch, place, peer, local, world);
     }
@@ -422,10 +425,12 @@ fn step<P: RankProgram>(
     requires same { world.old.setup ≡ setup.now }
     requires may { MayStep P.meanings P.good setup.now world.old.journal (viewed rank local.old epoch.old stand) }
     requires lasts { stand ≡ Stand.Ended → ⊥ }
+    ensures fails { stand ≡ Stand.Failed → result ≡ Step.Short }
     ensures setup { world.new.setup ≡ world.old.setup }
     ensures stepped { HasStepped P.meanings P.good setup.now world.old.journal world.new.journal
         (viewed rank local.old epoch.old stand) (viewed rank local.new epoch.new stand) result }
 {
+    world.known();
     if let Stand::Arrived = stand {
         return leave::<P>(alloc, setup, rank, epoch, local, world);
     }
@@ -486,7 +491,8 @@ impl<P: RankProgram> Rank<P> {
     }
 
     /// One turn on a world of the rank's run: at most one event of the rank, the one that it is offered, or an arrival for
-    /// want of memory in its place. Where none is offered nothing changes.
+    /// want of memory in its place. Where none is offered nothing changes. A rank that has failed arrives for want of memory
+    /// or dies.
     pub fn turn_here(&mut self, alloc: Global, setup: &P::Setup, world: &mut World<P>) -> Turn
         requires same { world.old.setup ≡ setup.now }
         requires at { IsAt P.meanings P.good setup.now world.old.journal self.old }
@@ -496,6 +502,11 @@ impl<P: RankProgram> Rank<P> {
         ensures turn { TookTurn P.meanings P.good setup.now world.old.journal world.new.journal self.old.rank result }
         ensures as_before { result ≡ Turn.NotYet → self.new ≡ self.old }
         ensures ended { self.old.stand ≡ Stand.Ended → result ≡ Turn.Ended }
+        ensures failed { self.old.stand ≡ Stand.Failed → world.new.journal
+            ≡ world.old.journal ++ event_of_failed (is_due (core_after P.meanings setup.now world.old.journal) self.old.rank) self.old.rank ∷ [] }
+        ensures lacking { (self.old.stand ≡ Stand.Failed → ⊥) → world.new.journal ≡ world.old.journal ++ short_arrival self.old.rank ∷ []
+            → IsOfferedSome P.meanings P.good setup.now world.old.journal self.old.rank }
+        ensures opened { result ≡ Turn.Moved → self.new.stand ≡ Stand.Opening → ⊥ }
     {
         world.known();
         let rank = self.rank;

@@ -1,0 +1,154 @@
+//! A lone root of eight cells, of which one spreads.
+ghost use Rattle.std.specs.Prelude.{◌≡◌, ◌<◌, true, IfOk};
+ghost use Rattle.bf_id.specs.Id.{root_id};
+ghost use Rattle.bf_id.specs.Shape.{root_count};
+ghost use Rattle.bf_block.specs.Block.{after_regrid};
+ghost use Rattle.bf_block.specs.Setup.{case_of};
+
+use crate::laws::{a_regrid_of_one_level_keeps_each_block, the_walls_around_a_root_hold_samples};
+use crate::{Block, Memory, Opening, Point, Setup};
+use bf_case::{Case, Fill, RootCells, surround};
+use bf_cells::{Cells, Shell};
+use bf_id::{Id, Shape};
+use bf_items::Items;
+use std::alloc::Global;
+use std::process::Abort;
+use std::test::Fail;
+
+// The first cell has 8, the others 0; three steps.
+fn one_drop(alloc: Global) -> Result<Case, Memory> {
+    let drop = Fill {
+        low: [0, 0, 0],
+        high: [0, 0, 0],
+        value: 8,
+    };
+    Ok(Case {
+        roots: Shape {
+            nx: 1,
+            ny: 1,
+            nz: 1,
+        },
+        side: 2,
+        levels: 0,
+        ranks: 2,
+        steps: 3,
+        snapshot: 4,
+        regrid: 5,
+        refine: 7,
+        coarsen: 6,
+        flow: 8,
+        turns: 1,
+        shift: 9,
+        fills: Items::of(vec![in alloc; drop]?),
+        dies: Items::of(vec![in alloc; (1, 17)]?),
+        order: Items::of(vec![in alloc; 1, 0]?),
+    })
+}
+
+// The cells of a lone root, which all roots of its domain have.
+#[derive(Drop)]
+struct Lone<'a> {
+    cells: &'a Cells,
+}
+
+impl<'a> RootCells for Lone<'a> {
+    ghost has = { λ lone k. Unit {0} };
+
+    ghost grid_of = { λ lone k. lone.cells.now };
+
+    fn cells(&self, root: usize) -> &Cells {
+        self.cells
+    }
+}
+
+// A lone root one step later.
+fn step_alone(alloc: Global, setup: &Setup, block: Block) -> Result<Block, Memory>
+    requires case { block.case ≡ case_of setup.now }
+    requires point { block.point ≡ after_regrid 0 }
+    requires id { block.id ≡ root_id 0 }
+    requires lone { root_count (case_of setup.now).roots ≡ 1 }
+    requires steps { 0 < (case_of setup.now).steps }
+{
+    let mut shell = Shell::blank(alloc, setup.side())?;
+    surround(
+        &mut shell,
+        setup.roots(),
+        &Lone {
+            cells: block.cells(),
+        },
+        0,
+    );
+    the_walls_around_a_root_hold_samples();
+    match block.stepped(alloc, &shell) {
+        Ok(block) => Ok(block),
+        Err(_) => Err(Memory),
+    }
+}
+
+fn opened(rt: &impl Abort, alloc: Global) -> Result<(Opening, Setup), Memory>
+    ensures { IfOk result (λ pair. pair.0 ≡ case_of pair.1) }
+{
+    let case = one_drop(alloc)?;
+    assert!(rt; case.valid());
+    assert!(rt; case.levels == 0);
+    Opening::of(alloc, case)
+}
+
+// The lone root at the beginning, kept by the regrid of time 0.
+fn kept_first(alloc: Global, opening: &Opening, setup: &Setup) -> Result<Block, Memory>
+    requires { opening.now ≡ case_of setup.now }
+    ensures case { IfOk result (λ block. block.case ≡ case_of setup.now) }
+    ensures point { IfOk result (λ block. block.point ≡ after_regrid 0) }
+    ensures id { IfOk result (λ block. block.id ≡ root_id 0) }
+{
+    let _some = setup.root_count();
+    let block = Block::initial(alloc, opening, 0)?;
+    let _cells = block.cells();
+    a_regrid_of_one_level_keeps_each_block();
+    Ok(block.kept())
+}
+
+fn expect_cells(rt: &impl Abort, block: &Block, values: &[u32]) {
+    assert_eq!(rt; block.cells().values(), values);
+}
+
+fn expect_first_root(rt: &impl Abort, block: &Block, time: u32, regridded: bool) {
+    assert_eq!(rt; block.point(), Point { time, regridded });
+    assert_eq!(rt; block.id(), Id::root_of(0));
+}
+
+#[test]
+fn a_drop_spreads(rt: HostRuntime) -> Result<(), Fail> {
+    let (opening, setup) = opened(&rt, rt.alloc())?;
+    let block = kept_first(rt.alloc(), &opening, &setup)?;
+    expect_first_root(&rt, &block, 0, true);
+    expect_cells(&rt, &block, [8, 0, 0, 0, 0, 0, 0, 0].as_slice());
+    assert!(rt; setup.root_count() == 1);
+    assert!(rt; setup.steps() == 3);
+    let next = step_alone(rt.alloc(), &setup, block)?.copy()?;
+    expect_first_root(&rt, &next, 1, false);
+    expect_cells(&rt, &next, [5, 1, 1, 0, 1, 0, 0, 0].as_slice());
+    Ok(())
+}
+
+#[test]
+fn a_setup_shows_its_case(rt: HostRuntime) -> Result<(), Fail> {
+    let (_, first) = opened(&rt, rt.alloc())?;
+    let setup = first.share()?;
+    let numbers = [
+        setup.side(),
+        setup.levels(),
+        setup.ranks(),
+        setup.snapshot(),
+        setup.regrid(),
+        setup.refine(),
+        setup.coarsen(),
+        setup.flow(),
+        setup.turns(),
+        setup.shift(),
+    ];
+    assert_eq!(rt; numbers, [2, 0, 2, 4, 5, 7, 6, 8, 1, 9]);
+    assert_eq!(rt; setup.dies(), [(1, 17)].as_slice());
+    assert_eq!(rt; setup.order(), [1, 0].as_slice());
+    Ok(())
+}

@@ -1,0 +1,55 @@
+//! What comes of a case that is run by its ranks, each law the contract of a call that does nothing.
+ghost use Rattle.std.specs.Prelude.{◌≡◌, ◌⊎◌, ℕ, IsTrue, IsPermutation, List, [], Some, map};
+ghost use Rattle.std.specs.List.{list_any};
+ghost use Rattle.std.specs.List.Sorted.{IsNonDecreasingBy};
+ghost use Rattle.bf_case.specs.declared.case.Case.{Case};
+ghost use Rattle.bf_case.specs.Model.{model};
+ghost use Rattle.bf_core.specs.declared.event.Event.{Event};
+ghost use Rattle.bf_core.specs.declared.outcome.Outcome.TheVariants.{Finished, Memory};
+ghost use Rattle.bf_core.specs.Legal.{is_memory};
+ghost use Rattle.bf_core.specs.States.{is_finished};
+ghost use Rattle.bf_world.specs.Runs.{run_after, is_journal};
+ghost use Rattle.bf_world.specs.Worlds.{core_after};
+ghost use Rattle.bf_block.specs.Block.{BlockValue};
+ghost use Rattle.bf_block.specs.Runs.{CanRun};
+ghost use Rattle.bf_block.specs.declared.setup.Setup.{Setup};
+ghost use Rattle.bf_block.specs.Setup.{case_of};
+ghost use Rattle.bf_forest.specs.Gathered.{leaf_of};
+ghost use Rattle.bf_forest.specs.Leaves.{AreLeaves};
+ghost use Rattle.bf_forest.specs.Meanings.{forest};
+ghost use Rattle.bf_driven.specs.Parcels.{blocks_of};
+
+use bf_forest::Forest;
+use bf_world::laws::{
+    a_complete_run_without_deaths_ends, a_finished_run_has_every_parcel,
+    a_finished_run_is_at_its_end, the_last_locals_are_good,
+};
+
+/// Whatever order the events took and whoever died: once a run has finished, the blocks of its parcels are the leaves of
+/// the model's last map with their cells, each leaf once.
+pub fn a_finished_run_has_the_leaves()
+    ensures { (setup : Setup) (journal : List Event) → IsTrue (is_journal forest setup journal)
+        → (core_after forest setup journal).outcome ≡ Some Finished
+        → AreLeaves (model (case_of setup) (case_of setup).steps) (blocks_of (run_after forest setup journal).parcels) }
+{
+    a_finished_run_has_every_parcel::<Forest>();
+    the_last_locals_are_good::<Forest>();
+    a_finished_run_is_at_its_end::<Forest>();
+}
+
+/// Blocks that are the leaves of a map of the model, put in rising order of their roots, are the map.
+pub fn leaves_in_order_are_the_map()
+    ensures { (c : Case) (time : ℕ) (blocks sorted : List BlockValue) → CanRun c → AreLeaves (model c time) blocks
+        → IsPermutation blocks sorted → IsNonDecreasingBy (λ (block : BlockValue). block.id.root) sorted
+        → map leaf_of sorted ≡ model c time }
+{}
+
+/// A case without deaths comes to its end, or some rank has arrived for want of memory.
+pub fn a_case_without_deaths_ends()
+    ensures { (setup : Setup) (journal : List Event) → (case_of setup).dies ≡ []
+        → IsTrue (is_journal forest setup journal) → IsTrue (is_finished (core_after forest setup journal))
+        → ((core_after forest setup journal).outcome ≡ Some Finished)
+        ⊎ (((core_after forest setup journal).outcome ≡ Some Memory) × IsTrue (list_any is_memory journal)) }
+{
+    a_complete_run_without_deaths_ends::<Forest>();
+}
