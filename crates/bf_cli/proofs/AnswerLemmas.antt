@@ -65,9 +65,11 @@ served_by commands.Drive c served = served.served
 
 -- the bytes spell one case, so one text is printed
 pub prints_model : (command : Command) (bytes : List ℕ) (c : Case) (text : List ℕ) → Spells (Serves command) bytes c → text ≡ model_text c → PrintsModel command text bytes
-prints_model command bytes c text spells is =
-    ((c, spells), λ d other. is ∙ ap model_text
-    (same_served c d (served_by command c spells.served) (served_by command d other.served) (sym spells.text ∙ other.text)))
+prints_model command bytes c text spells is = (
+  (c, spells),
+  λ d other. is ∙ ap model_text
+      (same_served c d (served_by command c spells.served) (served_by command d other.served) (sym spells.text ∙ other.text)),
+)
 
 -- what is answered to a case is answered to its text
 pub answer_to_text : (command : Command) (bytes : List ℕ) (c : Case) (a : Answer) → Spells (Serves command) bytes c → IsAnswerFor command c a → IsAnswerTo command bytes a
@@ -158,6 +160,11 @@ means words left before after (answers.Line status.ReadFault) meant text (by_com
 means words left before after (answers.Line status.Ok) meant text (by_command command its cause) is = absurd cause
 means words left before after (answers.Line status.Usage) meant text (by_command command its cause) is = absurd cause
 means words left before after (answers.Line status.WriteFault) meant text (by_command command its cause) is = absurd cause
+
+pub means_with : (words : List (List ℕ)) (left : Option (List ℕ)) (before after : ℕ) (a : Answer) (meant : Status) (text : List ℕ) (world : Option ForestWorld)
+    → IsCaused words left before after a → IsMeant a meant text → world ≡ world_in a → IsAnswer words left before after world meant text
+means_with words left before after a meant text world cause is same =
+    subst (λ w. IsAnswer words left before after w meant text) (sym same) (means words left before after a meant text cause is)
 
 -- what is meant is read where the answer is
 pub read_where_meant : (a : Answer) (meant : Status) (text : List ℕ) → IsMeant a meant text → WasRead meant → WasRead (meant_by a)

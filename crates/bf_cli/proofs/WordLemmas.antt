@@ -1,13 +1,12 @@
 -- The words of the command line.
-use Rattle.std.proofs.Common.{◌≡◌, ℕ, List, [], ◌∷◌, Bool, eqb, length, map, get_or, sym, ap, ◌∙◌, arith}
+use Rattle.std.proofs.Common.{◌≡◌, ℕ, List, [], ◌∷◌, Bool, eqb, length, map, get_or, ap, arith}
 use Rattle.std.specs.Prelude.{◌↔◌, IsTrue, codes}
 use Rattle.std.specs.Borrow.{Bor}
 use lib.Pointwise.{pointwise}
 use Rattle.std.proofs.lemmas.Slice.Eq.{slice_eq-Decides}
 use Rattle.std.proofs.lemmas.Bool.Decides.{Decides-eqb}
-use Rattle.bf_cli.specs.declared.command.Command.{Command}
 use Rattle.bf_cli.specs.declared.command.Command.TheVariants as commands
-use Rattle.bf_cli.specs.Commands.{IsCommand, IsUsage}
+use Rattle.bf_cli.specs.Commands.{IsUsage}
 
 -- the one word of a list is a given one
 pub one_word : (words : List (Bor (List ℕ))) (d : Bor (List ℕ)) (word : List ℕ) (b : Bool) → length words ≡ 1

@@ -1,5 +1,5 @@
 -- What the program answers, and why.
-use Rattle.std.specs.Prelude.{◌≡◌, ◌⊎◌, ℕ, ◌+◌, List, [], ◌∷◌, ◌++◌, Option, Some, None, codes, decimal, IfSome, Contains}
+use Rattle.std.specs.Prelude.{◌≡◌, ◌⊎◌, ℕ, ◌+◌, List, [], ◌++◌, Option, Some, None, codes, decimal, IfSome, Contains}
 use Rattle.bf_edge.specs.Faults.{Rose}
 use Rattle.bf_edge.specs.Sink.{appended, AppendsPrefix}
 use Rattle.bf_edge.specs.Source.{left_after}

@@ -12,7 +12,7 @@ use Rattle.bf_cli.specs.declared.status.Status.{Status}
 use Rattle.bf_cli.specs.declared.status.Status.TheVariants as status
 use Rattle.bf_cli.specs.declared.answer.Answer.{Answer}
 use Rattle.bf_cli.specs.declared.answer.Answer.TheVariants as answers
-use Rattle.bf_cli.specs.Answers.{status_line, model_text, IsWorldOf, PrintsModel, WasRead}
+use Rattle.bf_cli.specs.Answers.{status_line, model_text, IsWorldOf, PrintsModel}
 use Rattle.bf_cli.specs.Commands.{IsCommand, IsUsage, Serves}
 use Rattle.bf_cli.specs.Driven.{ForestWorld, HasRun, outcome_of}
 

@@ -11,6 +11,7 @@ use crate::printer::{Printed, print_map};
 use crate::status::{Ended, Status};
 use bf_case::Map;
 use bf_core::Outcome;
+use bf_driven::laws::{a_finished_run_has_the_leaves, leaves_in_order_are_the_map};
 use bf_driven::leaves;
 use bf_edge::{Failed, Sink, write_all};
 use bf_forest::Forest;
@@ -153,6 +154,8 @@ fn tell_world<W: Sink>(
     ensures never_falls { W.faults sink.old ≤ W.faults sink.new }
 {
     world.known();
+    a_finished_run_has_the_leaves();
+    leaves_in_order_are_the_map();
     if let Some(Outcome::Finished) = world.outcome() {
         if let Ok(found) = leaves(alloc, world.parcels()) {
             return tell_map(sink, page, found.as_slice());

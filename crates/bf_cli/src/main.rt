@@ -14,7 +14,6 @@ mod printer;
 mod reader;
 mod run;
 mod status;
-mod stub;
 
 use bf_edge::{Memory, StdSink, StdSource};
 use plain::plain;

@@ -20,7 +20,7 @@ use crate::reader::{INPUT_LIMIT, Reading, read_case_for};
 use crate::run::one_run;
 use crate::status::{Ended, Status};
 use bf_case::Case;
-use crate::stub::run;
+use bf_driven::run;
 use bf_edge::{Memory, ReadEnd, Sink, Source, read_up_to};
 use std::alloc::Global;
 

@@ -197,7 +197,11 @@ pub fn put_leaf<W: Sink, L: Printed>(sink: &mut W, page: &mut Page, leaf: &L) ->
 }
 
 // Every leaf in its order.
-fn put_leaves<W: Sink, L: Printed>(sink: &mut W, page: &mut Page, leaves: &[L]) -> Result<(), Failed>
+fn put_leaves<W: Sink, L: Printed>(
+    sink: &mut W,
+    page: &mut Page,
+    leaves: &[L],
+) -> Result<(), Failed>
     ensures puts { OnOk result (Puts (W.written sink.old) (W.written sink.new) page.old page.new (flat_map leaf_text (map L.leaf leaves.now))) }
     ensures steady { OnOk result (W.faults sink.new ≡ W.faults sink.old) }
 

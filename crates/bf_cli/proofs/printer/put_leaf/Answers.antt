@@ -1,4 +1,4 @@
-use Rattle.std.proofs.Common.{◌++◌, subst, ap}
+use Rattle.std.proofs.Common.{◌++◌, subst}
 use Rattle.std.proofs.lemmas.Result.{on_ok_weaker, on_err_weaker}
 use Rattle.bf_edge.specs.Sink.{AppendsPrefix}
 use Rattle.bf_cli.specs.Page.{Puts}

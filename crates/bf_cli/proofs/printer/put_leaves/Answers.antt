@@ -1,4 +1,4 @@
-use Rattle.std.proofs.Common.{length, map, arith, rules}
+use Rattle.std.proofs.Common.{map, arith, rules}
 use Rattle.std.proofs.lemmas.List.{length-map}
 use Rattle.bf_case.specs.MapText.{leaf_text}
 use Rattle.bf_cli.proofs.LeafTexts.{leaf_below, leaf_read}
