@@ -14,10 +14,16 @@ pub record IsServed (c : Case) : Type 0 where
   pub one_level : c.levels ≡ 0
   pub no_deaths : c.dies ≡ []
 
--- the bytes are the canonical text of this case, which is served
-pub record Spells (bytes : List ℕ) (c : Case) : Type 0 where
-  pub short : length bytes ≤ input_limit
+-- those that ranks run so far: no regrid, and one snapshot, at the end
+pub record IsServedByRanks (c : Case) : Type 0 where
   pub served : IsServed c
+  pub no_regrid : c.regrid ≡ 0
+  pub one_snapshot : c.steps ≤ c.snapshot
+
+-- the bytes are the canonical text of this case, which is served
+pub record Spells (Serves : Case → Type 0) (bytes : List ℕ) (c : Case) : Type 0 where
+  pub short : length bytes ≤ input_limit
+  pub served : Serves c
   pub text : bytes ≡ case_text c
 
 -- the input is longer than an input may be
@@ -25,11 +31,11 @@ abbrev pub IsTooLong : List ℕ → Type 0
 IsTooLong bytes = input_limit < length bytes
 
 -- the input has a fit length and is the text of no case that is served
-pub record SpellsNone (bytes : List ℕ) : Type 0 where
+pub record SpellsNone (Serves : Case → Type 0) (bytes : List ℕ) : Type 0 where
   pub short : length bytes ≤ input_limit
-  pub none : (c : Case) → IsServed c → bytes ≡ case_text c → ⊥
+  pub none : (c : Case) → Serves c → bytes ≡ case_text c → ⊥
 
 -- code 2, too long, and code 99, not built yet: both are told of the whole input, as line 0
-pub data IsRefused : List ℕ → ℕ → ℕ → Type 0 where
-  too_long : {bytes : List ℕ} → IsTooLong bytes → IsRefused bytes 0 2
-  not_built : {bytes : List ℕ} → SpellsNone bytes → IsRefused bytes 0 99
+pub data IsRefused (Serves : Case → Type 0) : List ℕ → ℕ → ℕ → Type 0 where
+  too_long : {bytes : List ℕ} → IsTooLong bytes → IsRefused Serves bytes 0 2
+  not_built : {bytes : List ℕ} → SpellsNone Serves bytes → IsRefused Serves bytes 0 99

@@ -6,7 +6,11 @@ pub mod Heads
 pub mod FillLines
 pub mod OrderLines
 pub mod Texts
+pub mod RankLemmas
 pub mod PageLemmas
 pub mod RunLoop
 pub mod RootLists
+pub mod WordLemmas
+pub mod LeafTexts
+pub mod DrivenLemmas
 pub mod AnswerLemmas

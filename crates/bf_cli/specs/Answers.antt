@@ -1,18 +1,20 @@
 -- What the program answers, and why.
-use Rattle.std.specs.Prelude.{◌≡◌, ◌⊎◌, ℕ, ◌+◌, List, [], ◌∷◌, ◌++◌, Option, codes, decimal, IfSome, Contains}
+use Rattle.std.specs.Prelude.{◌≡◌, ◌⊎◌, ℕ, ◌+◌, List, [], ◌++◌, Option, Some, None, codes, decimal, IfSome, Contains}
 use Rattle.bf_edge.specs.Faults.{Rose}
 use Rattle.bf_edge.specs.Sink.{appended, AppendsPrefix}
 use Rattle.bf_edge.specs.Source.{left_after}
 use Rattle.bf_case.specs.declared.case.Case.{Case}
-use Rattle.bf_case.specs.Reading.{input_limit, Spells, IsRefused}
+use Rattle.bf_case.specs.Reading.{input_limit, Spells, IsRefused, IsServedByRanks}
 use Rattle.bf_case.specs.Model.{model}
 use Rattle.bf_case.specs.MapText.{map_text}
+use Rattle.bf_block.specs.Setup.{case_of}
+use Rattle.bf_core.specs.declared.outcome.Outcome.TheVariants.{Finished}
+use Rattle.bf_cli.specs.declared.command.Command.{Command}
+use Rattle.bf_cli.specs.declared.command.Command.TheVariants as commands
 use Rattle.bf_cli.specs.declared.status.Status.{Status}
 use Rattle.bf_cli.specs.declared.status.Status.TheVariants as status
-
--- the words of the one command
-abbrev pub IsOne : List (List ℕ) → Type 0
-IsOne words = words ≡ codes "one" ∷ []
+use Rattle.bf_cli.specs.Commands.{IsCommand, IsUsage, Serves}
+use Rattle.bf_cli.specs.Driven.{ForestWorld, HasRun, outcome_of}
 
 -- the answer is one of these
 abbrev pub IsAmong : List Status → Status → Type 0
@@ -36,9 +38,14 @@ status_line status.Memory = codes "memory\n"
 status_line status.ReadFault = codes "read fault\n"
 status_line status.WriteFault = []
 
--- the bytes spell a case that is served, and the text is that of its map after all steps
-abbrev pub PrintsModel : List ℕ → List ℕ → Type 0
-PrintsModel text bytes = ((c : Case) × Spells bytes c) × ((c : Case) → Spells bytes c → text ≡ map_text (model c c.steps))
+-- the text of a case's map after all steps
+abbrev pub model_text : Case → List ℕ
+model_text c = map_text (model c c.steps)
+
+-- the bytes spell a case that the command is served, and the text is that of its map after all steps
+abbrev pub PrintsModel : Command → List ℕ → List ℕ → Type 0
+PrintsModel command text bytes =
+    ((c : Case) × Spells (Serves command) bytes c) × ((c : Case) → Spells (Serves command) bytes c → text ≡ model_text c)
 
 -- the whole input was read
 abbrev pub WasRead : Status → Type 0
@@ -46,16 +53,38 @@ WasRead status.Ok = Unit {0}
 WasRead (status.Refused line code) = Unit {0}
 WasRead s = ⊥
 
--- why this answer may come, for these words, for the bytes of the source where they are told, and for its count of faults before and after;
--- and the text that goes with it
-abbrev pub IsAnswer : List (List ℕ) → Option (List ℕ) → ℕ → ℕ → Status → List ℕ → Type 0
-IsAnswer words left before after status.Ok text = IsOne words × IfSome left (PrintsModel text) × (after ≡ before)
-IsAnswer words left before after status.Usage text = (IsOne words → ⊥) × (text ≡ status_line status.Usage) × (after ≡ before)
-IsAnswer words left before after (status.Refused line code) text =
-    IsOne words × IfSome left (λ bytes. IsRefused bytes line code) × (text ≡ status_line (status.Refused line code)) × (after ≡ before)
-IsAnswer words left before after status.Memory text = IsOne words × (text ≡ status_line status.Memory) × (after ≡ before)
-IsAnswer words left before after status.ReadFault text = IsOne words × (text ≡ status_line status.ReadFault) × Rose before after
-IsAnswer words left before after status.WriteFault text = ⊥
+-- the world is that of the case that the bytes spell, where they are told, which the ranks have run
+pub record IsWorldOf (left : Option (List ℕ)) (world : ForestWorld) : Type 0 where
+  pub run : HasRun world
+  pub its : IfSome left (λ bytes. Spells IsServedByRanks bytes (case_of world.setup))
+
+-- what a command hands out: only the ranks' run has a world
+abbrev pub HandsOut : Command → Option (List ℕ) → Option ForestWorld → Type 0
+HandsOut commands.One left world = world ≡ None
+HandsOut commands.Drive left world = IfSome world (IsWorldOf left)
+
+-- where a map is printed that ranks have made, their world is there and has finished
+abbrev pub HasFinished : Command → Option ForestWorld → Type 0
+HasFinished commands.One world = Unit {0}
+HasFinished commands.Drive world = (w : ForestWorld) × (world ≡ Some w) × (outcome_of w ≡ Some Finished)
+
+-- why this answer of a command may come, for the bytes of the source where they are told, for its count of faults before and after, and
+-- for the world that is handed out; and the text that goes with it
+abbrev pub IsAnswerOf : Command → Option (List ℕ) → ℕ → ℕ → Option ForestWorld → Status → List ℕ → Type 0
+IsAnswerOf command left before after world status.Ok text =
+    IfSome left (PrintsModel command text) × (after ≡ before) × HandsOut command left world × HasFinished command world
+IsAnswerOf command left before after world (status.Refused line code) text =
+    IfSome left (λ bytes. IsRefused (Serves command) bytes line code) × (text ≡ status_line (status.Refused line code)) × (after ≡ before) × (world ≡ None)
+IsAnswerOf command left before after world status.Memory text = (text ≡ status_line status.Memory) × (after ≡ before) × HandsOut command left world
+IsAnswerOf command left before after world status.ReadFault text = (text ≡ status_line status.ReadFault) × Rose before after × (world ≡ None)
+IsAnswerOf command left before after world status.Usage text = ⊥
+IsAnswerOf command left before after world status.WriteFault text = ⊥
+
+-- the same for any words
+pub data IsAnswer (words : List (List ℕ)) (left : Option (List ℕ)) (before after : ℕ) (world : Option ForestWorld) : Status → List ℕ → Type 0 where
+  no_command : IsUsage words → after ≡ before → world ≡ None → IsAnswer words left before after world status.Usage (status_line status.Usage)
+  of_command : {meant : Status} {text : List ℕ} (command : Command) → IsCommand words command → IsAnswerOf command left before after world meant text
+      → IsAnswer words left before after world meant text
 
 -- the answer that was meant was written whole, with no fault; or a fault came in writing it, and the front of its text is written
 abbrev pub Tells : Status → List ℕ → Status → Option (List ℕ) → Option (List ℕ) → ℕ → ℕ → Type 0
@@ -79,10 +108,10 @@ pub record SinkEnds : Type 0 where
 
 -- a call means an answer that has its cause, and tells it: also where the sink fails, what is written is the front of such an answer,
 -- and the input was read whole where that answer needs it
-pub record Answers (words : List (List ℕ)) (source : SourceEnds) (sink : SinkEnds) (answer : Status) : Type 0 where
+pub record Answers (words : List (List ℕ)) (source : SourceEnds) (sink : SinkEnds) (world : Option ForestWorld) (answer : Status) : Type 0 where
   pub meant : Status
   pub text : List ℕ
-  pub cause : IsAnswer words source.left source.faults source.faults_then meant text
+  pub cause : IsAnswer words source.left source.faults source.faults_then world meant text
   pub whole : WasRead meant → source.left_then ≡ left_after source.left (input_limit + 1)
   pub told : Tells meant text answer sink.written sink.written_then sink.faults sink.faults_then
 
@@ -98,11 +127,11 @@ IsLine status.WriteFault = ⊥
 IsLine s = Unit {0}
 
 -- the text of the map of a case that the bytes spell has been written, and nothing else
-abbrev pub WroteModel : Option (List ℕ) → Option (List ℕ) → List ℕ → Type 0
-WroteModel old new bytes = (c : Case) × Spells bytes c × (new ≡ appended old (map_text (model c c.steps)))
+abbrev pub WroteModel : Command → Option (List ℕ) → Option (List ℕ) → List ℕ → Type 0
+WroteModel command old new bytes = (c : Case) × Spells (Serves command) bytes c × (new ≡ appended old (model_text c))
 
 -- the text of this case's map has been written, or the line that tells want of memory
 abbrev pub IsDone : Case → Status → Option (List ℕ) → Option (List ℕ) → Type 0
 IsDone c answer old new =
-    ((answer ≡ status.Ok) × (new ≡ appended old (map_text (model c c.steps))))
+    ((answer ≡ status.Ok) × (new ≡ appended old (model_text c)))
     ⊎ ((answer ≡ status.Memory) × (new ≡ appended old (status_line status.Memory)))

@@ -13,10 +13,10 @@ use Rattle.bf_cli.specs.declared.reader.head.Times.{Times}
 use Rattle.bf_cli.specs.declared.reader.head.Limits.{Limits}
 use Rattle.bf_cli.specs.declared.reader.head.Head.{Head}
 
--- the case that the bytes spell, or their refusal
-abbrev pub IsReading : List ℕ → Reading → Type 0
-IsReading bytes (readings.Case c) = Spells bytes c
-IsReading bytes (readings.Refused line code) = IsRefused bytes line code
+-- the case that the bytes spell, if it is served, or their refusal
+abbrev pub IsReading : (Serves : Case → Type 0) → List ℕ → Reading → Type 0
+IsReading Serves bytes (readings.Case c) = Spells Serves bytes c
+IsReading Serves bytes (readings.Refused line code) = IsRefused Serves bytes line code
 
 -- the step that goes on from what was found, if anything was
 infixl 10 ◌>>=◌

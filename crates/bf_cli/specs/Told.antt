@@ -1,38 +1,78 @@
 -- What an answer tells.
-use Rattle.std.specs.Prelude.{◌≡◌, ℕ, List, [], Option, IfSome}
+use Rattle.std.specs.Prelude.{◌≡◌, ◌⊎◌, ℕ, List, [], Option, Some, None, IfSome}
+use Rattle.bf_edge.specs.Faults.{Rose}
+use Rattle.bf_case.specs.declared.case.Case.{Case}
 use Rattle.bf_case.specs.MapText.{map_text}
+use Rattle.bf_case.specs.Reading.{IsRefused, IsServedByRanks, Spells}
+use Rattle.bf_block.specs.Setup.{case_of}
+use Rattle.bf_core.specs.declared.outcome.Outcome.TheVariants.{Finished}
+use Rattle.bf_cli.specs.declared.command.Command.{Command}
+use Rattle.bf_cli.specs.declared.command.Command.TheVariants as commands
 use Rattle.bf_cli.specs.declared.status.Status.{Status}
 use Rattle.bf_cli.specs.declared.status.Status.TheVariants as status
 use Rattle.bf_cli.specs.declared.answer.Answer.{Answer}
-use Rattle.bf_cli.specs.declared.answer.Answer.TheVariants as answer
-use Rattle.bf_case.specs.Reading.{IsRefused}
-use Rattle.bf_cli.specs.Answers.{status_line, PrintsModel}
+use Rattle.bf_cli.specs.declared.answer.Answer.TheVariants as answers
+use Rattle.bf_cli.specs.Answers.{status_line, model_text, IsWorldOf, PrintsModel}
+use Rattle.bf_cli.specs.Commands.{IsCommand, IsUsage, Serves}
+use Rattle.bf_cli.specs.Driven.{ForestWorld, HasRun, outcome_of}
 
--- the status that is meant
+-- what an answer means where memory suffices
 abbrev pub meant_by : Answer → Status
-meant_by (answer.Map map page) = status.Ok
-meant_by (answer.Line s) = s
+meant_by (answers.Map map page) = status.Ok
+meant_by (answers.World world page) = status.Ok
+meant_by (answers.Line s) = s
 
--- the text that is to be written
-abbrev pub text_by : Answer → List ℕ
-text_by (answer.Map map page) = map_text map.leaves
-text_by (answer.Line s) = status_line s
+-- the text of a world's leaves goes with its case's map, once it has finished; else memory was wanting
+abbrev pub IsMeantBy : ForestWorld → Status → List ℕ → Type 0
+IsMeantBy world meant text =
+    ((meant ≡ status.Ok) × (outcome_of world ≡ Some Finished) × (text ≡ model_text (case_of world.setup)))
+    ⊎ ((meant ≡ status.Memory) × (text ≡ status_line status.Memory))
+
+-- the status that is meant, and the text that is to be written
+abbrev pub IsMeant : Answer → Status → List ℕ → Type 0
+IsMeant (answers.Map map page) meant text = (meant ≡ status.Ok) × (text ≡ map_text map.leaves)
+IsMeant (answers.World world page) meant text = IsMeantBy world meant text
+IsMeant (answers.Line s) meant text = (meant ≡ s) × (text ≡ status_line s)
+
+-- the world that is handed out
+abbrev pub world_in : Answer → Option ForestWorld
+world_in (answers.Map map page) = None
+world_in (answers.World world page) = Some world
+world_in (answers.Line s) = None
 
 -- the page is empty
 abbrev pub IsTellable : Answer → Type 0
-IsTellable (answer.Map map page) = page ≡ []
-IsTellable (answer.Line s) = Unit {0}
+IsTellable (answers.Map map page) = page ≡ []
+IsTellable (answers.World world page) = page ≡ []
+IsTellable (answers.Line s) = Unit {0}
 
--- the answer to these bytes: the map of the case that they spell, or their refusal
-abbrev pub IsAnswerTo : List ℕ → Answer → Type 0
-IsAnswerTo bytes (answer.Map map page) = PrintsModel (map_text map.leaves) bytes × (page ≡ [])
-IsAnswerTo bytes (answer.Line (status.Refused line code)) = IsRefused bytes line code
-IsAnswerTo bytes (answer.Line s) = ⊥
+-- the answer of a command to a case
+abbrev pub IsAnswerFor : Command → Case → Answer → Type 0
+IsAnswerFor command c (answers.Map map page) = (command ≡ commands.One) × (map_text map.leaves ≡ model_text c) × (page ≡ [])
+IsAnswerFor command c (answers.World world page) = (command ≡ commands.Drive) × HasRun world × (case_of world.setup ≡ c) × (page ≡ [])
+IsAnswerFor command c (answers.Line s) = ⊥
 
--- what a source that gave these bytes, where they are told, is answered
-abbrev pub IsSourceAnswer : Option (List ℕ) → Answer → Type 0
-IsSourceAnswer left (answer.Map map page) = IfSome left (PrintsModel (map_text map.leaves)) × (page ≡ [])
-IsSourceAnswer left (answer.Line (status.Refused line code)) = IfSome left (λ bytes. IsRefused bytes line code)
-IsSourceAnswer left (answer.Line status.Memory) = Unit {0}
-IsSourceAnswer left (answer.Line status.ReadFault) = Unit {0}
-IsSourceAnswer left (answer.Line s) = ⊥
+-- the answer of a command to these bytes: that to the case that they spell, or their refusal
+abbrev pub IsAnswerTo : Command → List ℕ → Answer → Type 0
+IsAnswerTo command bytes (answers.Map map page) = (command ≡ commands.One) × PrintsModel command (map_text map.leaves) bytes × (page ≡ [])
+IsAnswerTo command bytes (answers.World world page) =
+    (command ≡ commands.Drive) × HasRun world × Spells IsServedByRanks bytes (case_of world.setup) × (page ≡ [])
+IsAnswerTo command bytes (answers.Line (status.Refused line code)) = IsRefused (Serves command) bytes line code
+IsAnswerTo command bytes (answers.Line s) = ⊥
+
+-- the answer of a command to a source that gave these bytes, where they are told, by its count of faults before and after
+abbrev pub IsSourceAnswer : Command → Option (List ℕ) → ℕ → ℕ → Answer → Type 0
+IsSourceAnswer command left before after (answers.Map map page) =
+    (command ≡ commands.One) × IfSome left (PrintsModel command (map_text map.leaves)) × (page ≡ []) × (after ≡ before)
+IsSourceAnswer command left before after (answers.World world page) = (command ≡ commands.Drive) × IsWorldOf left world × (page ≡ []) × (after ≡ before)
+IsSourceAnswer command left before after (answers.Line (status.Refused line code)) =
+    IfSome left (λ bytes. IsRefused (Serves command) bytes line code) × (after ≡ before)
+IsSourceAnswer command left before after (answers.Line status.Memory) = after ≡ before
+IsSourceAnswer command left before after (answers.Line status.ReadFault) = Rose before after
+IsSourceAnswer command left before after (answers.Line s) = ⊥
+
+-- the answer to the words and a source
+pub data IsCaused (words : List (List ℕ)) (left : Option (List ℕ)) (before after : ℕ) : Answer → Type 0 where
+  usage : IsUsage words → after ≡ before → IsCaused words left before after (answers.Line status.Usage)
+  by_command : {answer : Answer} (command : Command) → IsCommand words command → IsSourceAnswer command left before after answer
+      → IsCaused words left before after answer

@@ -1,12 +1,13 @@
 //! The program: from the bytes of a case to the printed cells.
 //!
 //! `plain` is the whole of it, over any source and sink: what it writes and why stands in its contract. Under it the
-//! reader takes the canonical text of a case, the run steps a map whose leaves are the roots, and the printer writes
-//! the map through a page of bytes, so that nothing asks for memory while something is written. `main` makes the
-//! real ends, calls `plain`, and ends with the status's number.
+//! reader takes the canonical text of a case, the run steps a map whose leaves are the roots, or ranks run the case on
+//! this thread, and the printer writes the leaves through a page of bytes, so that nothing asks for memory while
+//! something is written. `main` makes the real ends, calls `plain`, and ends with the status's number.
 #![tactic(auto)]
 
 mod answer;
+mod command;
 mod page;
 mod plain;
 mod printer;

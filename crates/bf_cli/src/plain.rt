@@ -1,57 +1,66 @@
 //! The top call: words, a source and a sink.
-ghost use Rattle.std.specs.Prelude.{◌≡◌, ◌⊎◌, ◌↔◌, ℕ, ◌+◌, ◌<◌, ◌≤◌, List, [], ◌∷◌, map, codes, Some, IsTrue, IfOk, IfSome, OnOk};
+ghost use Rattle.std.specs.Prelude.{◌≡◌, ◌⊎◌, ℕ, ◌+◌, ◌<◌, ◌≤◌, List, [], ◌∷◌, map, Some, None, IfOk, IfSome, OnOk};
 ghost use Rattle.bf_edge.specs.Faults.{Rose};
 ghost use Rattle.bf_edge.specs.Sink.{appended};
 ghost use Rattle.bf_edge.specs.Source.{left_after, Passes};
 ghost use Rattle.bf_case.specs.declared.case.Case.{Case};
-ghost use Rattle.bf_case.specs.MapText.{map_text};
-ghost use Rattle.bf_case.specs.Model.{model};
 ghost use Rattle.bf_case.specs.Reading.{input_limit, Spells, IsRefused};
-ghost use Rattle.bf_cli.specs.Answers.{status_line, Answers, IsAmong, IsAnswer, IsDone, IsLine, IsOne, OnRefused, WasRead, WroteModel};
-ghost use Rattle.bf_cli.specs.Told.{meant_by, text_by, IsAnswerTo, IsSourceAnswer, IsTellable};
+ghost use Rattle.bf_core.specs.declared.outcome.Outcome.TheVariants.{Finished};
+ghost use Rattle.bf_cli.specs.Answers.{status_line, Answers, IsAmong, IsDone, IsLine, IsWorldOf, OnRefused, WasRead, WroteModel};
+ghost use Rattle.bf_cli.specs.Commands.{IsCommand, IsUsage, Serves};
+ghost use Rattle.bf_cli.specs.Driven.{ForestWorld, outcome_of};
+ghost use Rattle.bf_cli.specs.Told.{meant_by, IsAnswerFor, IsAnswerTo, IsCaused, IsSourceAnswer, IsTellable};
+ghost use Rattle.bf_cli.specs.declared.command.Command.{Command};
 ghost use Rattle.bf_cli.specs.declared.status.Status.{Status};
 
 use crate::answer::Answer;
+use crate::command::{Command, command_of};
 use crate::page::Page;
-use crate::reader::{INPUT_LIMIT, Reading, read_case};
+use crate::reader::{INPUT_LIMIT, Reading, read_case_for};
 use crate::run::one_run;
 use crate::status::{Ended, Status};
+use bf_case::Case;
+use bf_driven::run;
 use bf_edge::{Memory, ReadEnd, Sink, Source, read_up_to};
 use std::alloc::Global;
 
-/// Whether the words are the one command.
-fn is_one(words: &[&str]) -> bool
-    ensures { IsTrue result ↔ IsOne (map (λ word. word.now) words.now) }
+/// Runs a case as a command says.
+fn run_case(alloc: Global, command: Command, case: Case) -> Result<Answer, Memory>
+    requires { Serves command case }
+    ensures { IfOk result (IsAnswerFor command case) }
 {
-    words.len() == 1 && words[0] == "one"
-}
-
-/// Reads a case from its bytes and runs it. All memory that telling the answer takes is taken here.
-fn run_bytes(alloc: Global, bytes: &[u8]) -> Result<Answer, Memory>
-    ensures { IfOk result (IsAnswerTo bytes.now) }
-{
-    match read_case(alloc, bytes)? {
-        Reading::Case(case) => {
+    let page = Page::new(alloc)?;
+    match command {
+        Command::One => {
             let map = one_run(alloc, &case)?;
-            let page = Page::new(alloc)?;
             Ok(Answer::Map(map, page))
         }
+        Command::Drive => {
+            let world = run(alloc, case)?;
+            Ok(Answer::World(world, page))
+        }
+    }
+}
+
+/// Reads a case from its bytes and runs it.
+fn run_bytes(alloc: Global, command: Command, bytes: &[u8]) -> Result<Answer, Memory>
+    ensures { IfOk result (IsAnswerTo command bytes.now) }
+{
+    match read_case_for(alloc, command, bytes)? {
+        Reading::Case(case) => run_case(alloc, command, case),
         Reading::Refused { line, code } => Ok(Answer::Line(Status::Refused { line, code })),
     }
 }
 
 /// Reads the source and runs the case that it gives.
-fn run_source<R: Source>(alloc: Global, source: &mut R) -> Answer
-    ensures cause { IsSourceAnswer (R.left source.old) result }
-    ensures fault { meant_by result ≡ Status.ReadFault → Rose (R.faults source.old) (R.faults source.new) }
-    ensures fault_always { R.faults source.old < R.faults source.new → meant_by result ≡ Status.ReadFault }
-    ensures steady { (meant_by result ≡ Status.ReadFault → ⊥) → R.faults source.new ≡ R.faults source.old }
+fn run_source<R: Source>(alloc: Global, command: Command, source: &mut R) -> Answer
+    ensures cause { IsSourceAnswer command (R.left source.old) (R.faults source.old) (R.faults source.new) result }
     ensures whole { WasRead (meant_by result) → R.left source.new ≡ left_after (R.left source.old) (input_limit + 1) }
     ensures passed { Passes (R.left source.old) (R.left source.new) (input_limit + 1) }
     ensures never_falls { R.faults source.old ≤ R.faults source.new }
 {
     match read_up_to(alloc, source, INPUT_LIMIT) {
-        Ok(bytes) => match run_bytes(alloc, bytes.as_slice()) {
+        Ok(bytes) => match run_bytes(alloc, command, bytes.as_slice()) {
             Ok(answer) => answer,
             Err(_refused) => Answer::Line(Status::Memory),
         },
@@ -62,30 +71,27 @@ fn run_source<R: Source>(alloc: Global, source: &mut R) -> Answer
 
 /// What there is to answer to the words and the source.
 fn answer_to<R: Source>(alloc: Global, words: &[&str], source: &mut R) -> Answer
-    ensures cause { IsAnswer (map (λ word. word.now) words.now) (R.left source.old) (R.faults source.old) (R.faults source.new)
-        (meant_by result) (text_by result) }
+    ensures cause { IsCaused (map (λ word. word.now) words.now) (R.left source.old) (R.faults source.old) (R.faults source.new) result }
     ensures tellable { IsTellable result }
-    ensures fault { meant_by result ≡ Status.ReadFault → Rose (R.faults source.old) (R.faults source.new) }
-    ensures fault_always { R.faults source.old < R.faults source.new → meant_by result ≡ Status.ReadFault }
-    ensures unread { (IsOne (map (λ word. word.now) words.now) → ⊥)
+    ensures unread { IsUsage (map (λ word. word.now) words.now)
         → (R.left source.new ≡ R.left source.old) × (R.faults source.new ≡ R.faults source.old) }
     ensures whole { WasRead (meant_by result) → R.left source.new ≡ left_after (R.left source.old) (input_limit + 1) }
     ensures passed { Passes (R.left source.old) (R.left source.new) (input_limit + 1) }
     ensures never_falls { R.faults source.old ≤ R.faults source.new }
 {
-    if is_one(words) {
-        run_source(alloc, source)
-    } else {
-        Answer::Line(Status::Usage)
+    match command_of(words) {
+        Some(command) => run_source(alloc, command, source),
+        None => Answer::Line(Status::Usage),
     }
 }
 
 /// Does what the words say, and tells on the sink what came of it.
 ///
-/// The one command is `one`: it reads the canonical text of a case of one level and without deaths, at most 1,048,576
-/// bytes, and prints the map after all steps. All memory is taken before the first byte is written.
-/// Where several answers could be given the order is: usage, a fault in reading, a refusal, the map, a fault in
-/// writing. Want of memory may come in place of a refusal or the map.
+/// The commands are `one` and `drive`. Both read the canonical text of a case of one level and without deaths, at most
+/// 1,048,576 bytes, and print the map after all steps: `one` by one process alone, `drive` by ranks whose turns follow
+/// the case's order, where the case has no regrid and one snapshot, at its end. All memory is taken before the first
+/// byte is written. Where several answers could be given the order is: usage, a fault in reading, a refusal, the map, a
+/// fault in writing. Want of memory may come in place of a refusal or the map.
 pub fn plain<R: Source, W: Sink>(
     alloc: Global,
     words: &[&str],
@@ -106,19 +112,20 @@ pub fn plain<R: Source, W: Sink>(
           faults = W.faults sink.old;
           faults_then = W.faults sink.new;
         })
+        result.world
         result.status }
-    ensures done { result.status ≡ Status.Ok
-        → IfSome (R.left source.old) (WroteModel (W.written sink.old) (W.written sink.new)) }
+    ensures done { result.status ≡ Status.Ok → (command : Command) × (IsCommand (map (λ word. word.now) words.now) command
+        × IfSome (R.left source.old) (WroteModel command (W.written sink.old) (W.written sink.new))) }
     ensures line { IsLine result.status → W.written sink.new ≡ appended (W.written sink.old) (status_line result.status) }
 
     // Each answer has its cause, and comes where its cause is.
-    ensures usage { result.status ≡ Status.Usage → IsOne (map (λ word. word.now) words.now) → ⊥ }
-    ensures usage_always { (IsOne (map (λ word. word.now) words.now) → ⊥)
+    ensures usage { result.status ≡ Status.Usage → IsUsage (map (λ word. word.now) words.now) }
+    ensures usage_always { IsUsage (map (λ word. word.now) words.now)
         → IsAmong (Status.Usage ∷ Status.WriteFault ∷ []) result.status }
-    ensures refused { OnRefused result.status (λ line code.
-        IsOne (map (λ word. word.now) words.now) × IfSome (R.left source.old) (λ bytes. IsRefused bytes line code)) }
-    ensures refused_always { (bytes : List ℕ) (line code : ℕ)
-        → IsOne (map (λ word. word.now) words.now) → R.left source.old ≡ Some bytes → IsRefused bytes line code
+    ensures refused { OnRefused result.status (λ line code. (command : Command) × (IsCommand (map (λ word. word.now) words.now) command
+        × IfSome (R.left source.old) (λ bytes. IsRefused (Serves command) bytes line code))) }
+    ensures refused_always { (command : Command) (bytes : List ℕ) (line code : ℕ)
+        → IsCommand (map (λ word. word.now) words.now) command → R.left source.old ≡ Some bytes → IsRefused (Serves command) bytes line code
         → IsAmong (Status.Refused line code ∷ Status.Memory ∷ Status.ReadFault ∷ Status.WriteFault ∷ []) result.status }
     ensures read_fault { result.status ≡ Status.ReadFault → Rose (R.faults source.old) (R.faults source.new) }
     ensures read_fault_always { R.faults source.old < R.faults source.new
@@ -127,13 +134,19 @@ pub fn plain<R: Source, W: Sink>(
     ensures write_fault_always { W.faults sink.old < W.faults sink.new → result.status ≡ Status.WriteFault }
 
     // An accepted input and no fault: the text of the model, or want of memory.
-    ensures complete { (bytes : List ℕ) (c : Case)
-        → IsOne (map (λ word. word.now) words.now) → R.left source.old ≡ Some bytes → Spells bytes c
+    ensures complete { (command : Command) (bytes : List ℕ) (c : Case)
+        → IsCommand (map (λ word. word.now) words.now) command → R.left source.old ≡ Some bytes → Spells (Serves command) bytes c
         → (Rose (R.faults source.old) (R.faults source.new) → ⊥) → (Rose (W.faults sink.old) (W.faults sink.new) → ⊥)
         → IsDone c result.status (W.written sink.old) (W.written sink.new) }
 
+    // What the ranks have run.
+    ensures world { IfSome result.world (λ world. IsCommand (map (λ word. word.now) words.now) Command.Drive
+        × IsWorldOf (R.left source.old) world) }
+    ensures finished { result.status ≡ Status.Ok → IsCommand (map (λ word. word.now) words.now) Command.Drive
+        → (world : ForestWorld) × ((result.world ≡ Some world) × (outcome_of world ≡ Some Finished)) }
+
     // What the source has left.
-    ensures unread { (IsOne (map (λ word. word.now) words.now) → ⊥)
+    ensures unread { IsUsage (map (λ word. word.now) words.now)
         → (R.left source.new ≡ R.left source.old) × (R.faults source.new ≡ R.faults source.old) }
     ensures whole { WasRead result.status → R.left source.new ≡ left_after (R.left source.old) (input_limit + 1) }
     ensures passed { Passes (R.left source.old) (R.left source.new) (input_limit + 1) }
@@ -141,7 +154,5 @@ pub fn plain<R: Source, W: Sink>(
     ensures sink_never_falls { W.faults sink.old ≤ W.faults sink.new }
 {
     let answer = answer_to(alloc, words, source);
-    Ended {
-        status: answer.tell(sink),
-    }
+    answer.tell(alloc, sink)
 }

@@ -1,5 +1,5 @@
 //! Printing a map, leaf by leaf, to a sink.
-ghost use Rattle.std.specs.Prelude.{◌≡◌, [], ◌∷◌, ◌+◌, ◌*◌, ◌≤◌, ◌++◌, length, codes, decimal, flat_map, OnOk, OnErr};
+ghost use Rattle.std.specs.Prelude.{◌≡◌, [], ◌∷◌, ◌+◌, ◌*◌, ◌≤◌, ◌++◌, length, codes, decimal, flat_map, map, OnOk, OnErr};
 ghost use Rattle.bf_edge.specs.Faults.{Rose};
 ghost use Rattle.bf_edge.specs.Sink.{appended, AppendsPrefix};
 ghost use Rattle.bf_id.specs.IdText.{text_of};
@@ -8,9 +8,50 @@ ghost use Rattle.bf_case.specs.MapText.{row_text, grid_text, leaf_text, map_text
 ghost use Rattle.bf_cli.specs.Page.{Puts};
 
 use crate::page::{Page, flush, put, put_number};
+use bf_block::Block;
 use bf_cells::Cells;
 use bf_edge::{Failed, Sink};
 use bf_id::Id;
+
+/// What is printed as a leaf.
+pub trait Printed {
+    ghost use Rattle.std.specs.Prelude.{◌≡◌};
+    ghost use Rattle.bf_case.specs.Map.{Leaf};
+
+    ghost leaf: { Self → Leaf };
+
+    fn id(&self) -> Id
+        ensures { result ≡ (leaf self.now).0 };
+
+    fn cells(&self) -> &Cells
+        ensures { result.now ≡ (leaf self.now).1 };
+}
+
+impl Printed for (Id, Cells) {
+    ghost leaf = { λ leaf. leaf };
+
+    fn id(&self) -> Id {
+        self.0
+    }
+
+    fn cells(&self) -> &Cells {
+        &self.1
+    }
+}
+
+impl Printed for &Block {
+    ghost use Rattle.bf_forest.specs.Gathered.{leaf_of};
+
+    ghost leaf = { λ block. leaf_of block.now };
+
+    fn id(&self) -> Id {
+        Block::id(self)
+    }
+
+    fn cells(&self) -> &Cells {
+        Block::cells(self)
+    }
+}
 
 // A blank and the number.
 fn put_next<W: Sink>(sink: &mut W, page: &mut Page, number: u32) -> Result<(), Failed>
@@ -130,8 +171,8 @@ fn put_head<W: Sink>(sink: &mut W, page: &mut Page, id: Id) -> Result<(), Failed
     put(sink, page, b"\n")
 }
 
-/// A leaf: the line with its id, and its cells.
-pub fn put_leaf<W: Sink>(sink: &mut W, page: &mut Page, id: Id, cells: &Cells) -> Result<(), Failed>
+// The line with an id, and cells.
+fn put_block<W: Sink>(sink: &mut W, page: &mut Page, id: Id, cells: &Cells) -> Result<(), Failed>
     ensures puts { OnOk result (Puts (W.written sink.old) (W.written sink.new) page.old page.new (leaf_text (id, cells.now))) }
     ensures steady { OnOk result (W.faults sink.new ≡ W.faults sink.old) }
 
@@ -143,28 +184,44 @@ pub fn put_leaf<W: Sink>(sink: &mut W, page: &mut Page, id: Id, cells: &Cells) -
     put_grid(sink, page, cells)
 }
 
-// Every leaf in its order.
-fn put_leaves<W: Sink>(sink: &mut W, page: &mut Page, leaves: &[(Id, Cells)]) -> Result<(), Failed>
-    ensures puts { OnOk result (Puts (W.written sink.old) (W.written sink.new) page.old page.new (flat_map leaf_text leaves.now)) }
+/// A leaf: the line with its id, and its cells.
+pub fn put_leaf<W: Sink, L: Printed>(sink: &mut W, page: &mut Page, leaf: &L) -> Result<(), Failed>
+    ensures puts { OnOk result (Puts (W.written sink.old) (W.written sink.new) page.old page.new (leaf_text (L.leaf leaf.now))) }
     ensures steady { OnOk result (W.faults sink.new ≡ W.faults sink.old) }
 
     ensures rose { OnErr result (Rose (W.faults sink.old) (W.faults sink.new)) }
-    ensures prefix { OnErr result (AppendsPrefix (W.written sink.old) (W.written sink.new) (page.old ++ flat_map leaf_text leaves.now)) }
+    ensures prefix { OnErr result (AppendsPrefix (W.written sink.old) (W.written sink.new) (page.old ++ leaf_text (L.leaf leaf.now))) }
     ensures never_falls { W.faults sink.old ≤ W.faults sink.new }
 {
-    for (id, cells) in leaves {
-        put_leaf(sink, page, *id, cells)?;
+    put_block(sink, page, leaf.id(), leaf.cells())
+}
+
+// Every leaf in its order.
+fn put_leaves<W: Sink, L: Printed>(
+    sink: &mut W,
+    page: &mut Page,
+    leaves: &[L],
+) -> Result<(), Failed>
+    ensures puts { OnOk result (Puts (W.written sink.old) (W.written sink.new) page.old page.new (flat_map leaf_text (map L.leaf leaves.now))) }
+    ensures steady { OnOk result (W.faults sink.new ≡ W.faults sink.old) }
+
+    ensures rose { OnErr result (Rose (W.faults sink.old) (W.faults sink.new)) }
+    ensures prefix { OnErr result (AppendsPrefix (W.written sink.old) (W.written sink.new) (page.old ++ flat_map leaf_text (map L.leaf leaves.now))) }
+    ensures never_falls { W.faults sink.old ≤ W.faults sink.new }
+{
+    for leaf in leaves {
+        put_leaf(sink, page, leaf)?;
     }
     Ok(())
 }
 
 // Every leaf in its order, and the last line.
-fn put_map<W: Sink>(sink: &mut W, page: &mut Page, leaves: &[(Id, Cells)]) -> Result<(), Failed>
-    ensures puts { OnOk result (Puts (W.written sink.old) (W.written sink.new) page.old page.new (map_text leaves.now)) }
+fn put_map<W: Sink, L: Printed>(sink: &mut W, page: &mut Page, leaves: &[L]) -> Result<(), Failed>
+    ensures puts { OnOk result (Puts (W.written sink.old) (W.written sink.new) page.old page.new (map_text (map L.leaf leaves.now))) }
     ensures steady { OnOk result (W.faults sink.new ≡ W.faults sink.old) }
 
     ensures rose { OnErr result (Rose (W.faults sink.old) (W.faults sink.new)) }
-    ensures prefix { OnErr result (AppendsPrefix (W.written sink.old) (W.written sink.new) (page.old ++ map_text leaves.now)) }
+    ensures prefix { OnErr result (AppendsPrefix (W.written sink.old) (W.written sink.new) (page.old ++ map_text (map L.leaf leaves.now))) }
     ensures never_falls { W.faults sink.old ≤ W.faults sink.new }
 {
     put_leaves(sink, page, leaves)?;
@@ -172,18 +229,18 @@ fn put_map<W: Sink>(sink: &mut W, page: &mut Page, leaves: &[(Id, Cells)]) -> Re
 }
 
 /// Every leaf in its order, and the last line, through a page where nothing waits.
-pub fn print_map<W: Sink>(
+pub fn print_map<W: Sink, L: Printed>(
     sink: &mut W,
     page: &mut Page,
-    leaves: &[(Id, Cells)],
+    leaves: &[L],
 ) -> Result<(), Failed>
     requires { page.old ≡ [] }
-    ensures all { OnOk result (W.written sink.new ≡ appended (W.written sink.old) (map_text leaves.now)) }
+    ensures all { OnOk result (W.written sink.new ≡ appended (W.written sink.old) (map_text (map L.leaf leaves.now))) }
     ensures empty { OnOk result (page.new ≡ []) }
     ensures steady { OnOk result (W.faults sink.new ≡ W.faults sink.old) }
 
     ensures rose { OnErr result (Rose (W.faults sink.old) (W.faults sink.new)) }
-    ensures prefix { OnErr result (AppendsPrefix (W.written sink.old) (W.written sink.new) (map_text leaves.now)) }
+    ensures prefix { OnErr result (AppendsPrefix (W.written sink.old) (W.written sink.new) (map_text (map L.leaf leaves.now))) }
     ensures never_falls { W.faults sink.old ≤ W.faults sink.new }
 {
     put_map(sink, page, leaves)?;

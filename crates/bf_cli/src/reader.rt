@@ -1,6 +1,8 @@
 //! Reading the canonical text of a case.
 
-ghost use Rattle.std.specs.Prelude.{◌≡◌, IfOk, MatchOption};
+ghost use Rattle.std.specs.Prelude.{◌≡◌, ◌↔◌, ◌≤◌, IfOk, IsTrue, MatchOption};
+ghost use Rattle.bf_case.specs.Reading.{IsServed, IsServedByRanks};
+ghost use Rattle.bf_cli.specs.Commands.{Serves};
 ghost use Rattle.bf_cli.specs.Reader.{IsReading, IsTextOf, IsNoText, IsServedText, case_of};
 
 mod fills;
@@ -9,6 +11,7 @@ mod line;
 mod number;
 mod order;
 
+use crate::command::Command;
 use bf_case::{Case, Fill, Items};
 use fills::read_fills;
 use head::{Head, read_head};
@@ -83,7 +86,7 @@ fn served_case(alloc: Global, bytes: &[u8]) -> Result<Option<Case>, Memory>
 
 /// Reads an input: the case whose canonical text it is, where such a case is served, or why there is none.
 pub fn read_case(alloc: Global, bytes: &[u8]) -> Result<Reading, Memory>
-    ensures { IfOk result (IsReading bytes.now) }
+    ensures { IfOk result (IsReading IsServed bytes.now) }
 {
     if bytes.len() > INPUT_LIMIT as usize {
         return Ok(Reading::Refused {
@@ -97,6 +100,41 @@ pub fn read_case(alloc: Global, bytes: &[u8]) -> Result<Reading, Memory>
             line: 0,
             code: NOT_BUILT,
         }),
+    }
+}
+
+// Whether ranks run the case without a regrid and with one snapshot, at the end.
+fn is_run_by_ranks(case: &Case) -> bool
+    ensures { IsTrue result ↔ ((case.now.regrid ≡ 0) × (case.now.steps ≤ case.now.snapshot)) }
+{
+    case.regrid == 0 && case.steps <= case.snapshot
+}
+
+// The same where ranks run the case.
+fn read_case_of_ranks(alloc: Global, bytes: &[u8]) -> Result<Reading, Memory>
+    ensures { IfOk result (IsReading IsServedByRanks bytes.now) }
+{
+    match read_case(alloc, bytes)? {
+        Reading::Case(case) => {
+            if is_run_by_ranks(&case) {
+                return Ok(Reading::Case(case));
+            }
+            Ok(Reading::Refused {
+                line: 0,
+                code: NOT_BUILT,
+            })
+        }
+        Reading::Refused { line, code } => Ok(Reading::Refused { line, code }),
+    }
+}
+
+/// The same for a command.
+pub fn read_case_for(alloc: Global, command: Command, bytes: &[u8]) -> Result<Reading, Memory>
+    ensures { IfOk result (IsReading (Serves command) bytes.now) }
+{
+    match command {
+        Command::One => read_case(alloc, bytes),
+        Command::Drive => read_case_of_ranks(alloc, bytes),
     }
 }
 

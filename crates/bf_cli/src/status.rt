@@ -1,6 +1,9 @@
 //! How the program ends.
 ghost use Rattle.std.specs.Prelude.{◌≡◌};
 
+use bf_forest::Forest;
+use bf_world::World;
+
 /// What a call of the program comes to.
 #[derive(Clone, Copy, Debug, PartialEq, Eq)]
 pub enum Status {
@@ -37,7 +40,9 @@ impl Status {
 }
 
 /// The end of a call of the program.
-#[derive(Clone, Copy, Debug, PartialEq, Eq)]
+#[derive(Drop)]
 pub struct Ended {
     pub status: Status,
+    /// What the ranks have run, where ranks were to run.
+    pub world: Option<World<Forest>>,
 }

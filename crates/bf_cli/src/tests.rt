@@ -22,14 +22,46 @@ fn drop_text(alloc: Global) -> Result<Vec<u8>, Fail> {
     case_text(alloc, "1", "fill 0 0 0 0 0 0 8\n")
 }
 
-/// A case of two roots beside each other: what the first is filled with flows into the second.
-fn two_roots_text(alloc: Global) -> Result<Vec<u8>, Fail> {
+/// A case of two roots beside each other, with this distance between snapshots and these lines after the fill: what the
+/// first root is filled with flows into the second.
+fn two_roots_with(alloc: Global, snapshot: &str, order: &str) -> Result<Vec<u8>, Fail> {
     let head = "forest 1\nroots 2 1 1\nside 2\nlevels 0\nranks 2\nsteps 2\n";
-    let text = format!(in alloc; "{head}{TAIL}fill 0 0 0 1 1 1 80\nend\n")?;
+    let numbers = "regrid 0\nrefine 4294967295\ncoarsen 0\nflow 0\nturns 0\nshift 0\n";
+    let text = format!(in alloc;
+        "{head}snapshot {snapshot}\n{numbers}fill 0 0 0 1 1 1 80\n{order}end\n"
+    )?;
     Ok(text.as_bytes().to_vec(alloc)?)
 }
 
-/// Runs `one` over these bytes, and expects this status and this text.
+fn two_roots_text(alloc: Global) -> Result<Vec<u8>, Fail> {
+    two_roots_with(alloc, "1", "")
+}
+
+const TWO_ROOTS: &str =
+    "block 0\n78 63\n78 63\n78 63\n78 63\nblock 1\n16 1\n16 1\n16 1\n16 1\nend\n";
+
+/// Runs a command over these bytes, and expects this status and this text.
+fn expect_of(
+    rt: &impl Abort,
+    alloc: Global,
+    command: &str,
+    bytes: Vec<u8>,
+    status: Status,
+    text: &str,
+) -> Result<(), Fail> {
+    let mut source = MemSource::new(bytes, 1000, Vec::new(alloc));
+    let mut sink = MemSink::new(alloc, 1000, 1000, Vec::new(alloc))?;
+    let ended = plain(alloc, &[command], &mut source, &mut sink);
+    assert_eq!(rt; ended.status, status);
+    assert_eq!(rt; sink.written(), text.as_bytes());
+    assert_eq!(rt;
+        ended.world.is_some(),
+        command == "drive" && status == Status::Ok
+    );
+    Ok(())
+}
+
+/// The same of `one`.
 fn expect(
     rt: &impl Abort,
     alloc: Global,
@@ -37,12 +69,7 @@ fn expect(
     status: Status,
     text: &str,
 ) -> Result<(), Fail> {
-    let mut source = MemSource::new(bytes, 1000, Vec::new(alloc));
-    let mut sink = MemSink::new(alloc, 1000, 1000, Vec::new(alloc))?;
-    let ended = plain(alloc, &["one"], &mut source, &mut sink);
-    assert_eq!(rt; ended.status, status);
-    assert_eq!(rt; sink.written(), text.as_bytes());
-    Ok(())
+    expect_of(rt, alloc, "one", bytes, status, text)
 }
 
 #[test]
@@ -66,18 +93,25 @@ fn one_prints_the_map(rt: HostRuntime) -> Result<(), Fail> {
 #[test]
 fn a_value_flows_into_the_next_root(rt: HostRuntime) -> Result<(), Fail> {
     let alloc = rt.alloc();
-    let near = "78 63\n";
-    let far = "16 1\n";
-    let text = format!(in alloc;
-        "block 0\n{near}{near}{near}{near}block 1\n{far}{far}{far}{far}end\n"
-    )?;
-    expect(
-        &rt,
-        alloc,
-        two_roots_text(alloc)?,
-        Status::Ok,
-        text.as_str(),
-    )
+    expect(&rt, alloc, two_roots_text(alloc)?, Status::Ok, TWO_ROOTS)
+}
+
+#[test]
+fn ranks_print_the_same(rt: HostRuntime) -> Result<(), Fail> {
+    let alloc = rt.alloc();
+    expect_of(&rt, alloc, "drive", drop_text(alloc)?, Status::Ok, DROP)?;
+    let plain_order = two_roots_with(alloc, "2", "")?;
+    expect_of(&rt, alloc, "drive", plain_order, Status::Ok, TWO_ROOTS)?;
+    let ordered = two_roots_with(alloc, "2", "order 1 1 1 0 0 1 0\n")?;
+    expect_of(&rt, alloc, "drive", ordered, Status::Ok, TWO_ROOTS)
+}
+
+#[test]
+fn ranks_refuse_a_second_snapshot(rt: HostRuntime) -> Result<(), Fail> {
+    let alloc = rt.alloc();
+    let not_built = Status::Refused { line: 0, code: 99 };
+    let line = "refused line 0 code 99\n";
+    expect_of(&rt, alloc, "drive", two_roots_text(alloc)?, not_built, line)
 }
 
 #[test]
@@ -117,7 +151,8 @@ fn expect_usage(rt: &impl Abort, alloc: Global, words: &[&str]) -> Result<(), Fa
 fn other_words_are_usage(rt: HostRuntime) -> Result<(), Fail> {
     let alloc = rt.alloc();
     expect_usage(&rt, alloc, &[])?;
-    expect_usage(&rt, alloc, &["drive"])?;
+    expect_usage(&rt, alloc, &["run"])?;
+    expect_usage(&rt, alloc, &["drive", "x"])?;
     expect_usage(&rt, alloc, &["one", "x"])
 }
 

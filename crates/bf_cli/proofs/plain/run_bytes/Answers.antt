@@ -1,9 +1,8 @@
-use Rattle.std.proofs.Common.{ap}
-use Rattle.bf_case.specs.MapText.{map_text}
-use Rattle.bf_cli.proofs.AnswerLemmas.{prints_model}
+use Rattle.std.proofs.lemmas.Result.{IfOk-weaker}
+use Rattle.bf_cli.proofs.AnswerLemmas.{answer_to_text}
 use Rattle.bf_cli.proofs.plain.run_bytes.Goals as goal
 
-pub returns-in_ok-page-in-Case : goal.returns-in_ok-page-in-Case
-returns-in_ok-page-in-Case c =
+pub returns-in-Case : goal.returns-in-Case
+returns-in-Case c =
     let spells = rw c.in-Case.is at c.in_ok-case.ensures in
-    (prints_model c.args.bytes.now c.in-Case.case _ spells (ap map_text c.in_ok-map-in-Case.ensures.leaves), c.in_ok-page-in-Case.ensures)
+    IfOk-weaker c.run_case.result _ _ (λ answer is. answer_to_text c.args.command c.args.bytes.now c.in-Case.case answer spells is) c.run_case.ensures

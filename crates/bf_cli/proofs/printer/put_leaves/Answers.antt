@@ -1,16 +1,33 @@
-use Rattle.std.proofs.Common.{rules}
+use Rattle.std.proofs.Common.{map, arith, rules}
+use Rattle.std.proofs.lemmas.List.{length-map}
 use Rattle.bf_case.specs.MapText.{leaf_text}
-use Rattle.bf_cli.proofs.PageLemmas.{puts_item, breaks_item, on_err}
+use Rattle.bf_cli.proofs.LeafTexts.{leaf_below, leaf_read}
+use Rattle.bf_cli.proofs.PageLemmas.{puts_item, puts_items, breaks_item, on_err}
 use Rattle.bf_cli.proofs.printer.put_leaves.Goals as goal
 
-pub loop-id-preserved : goal.loop-id-preserved
-loop-id-preserved g c = record {
-  puts = puts_item leaf_text c.args.leaves.now c.loop-id.id-index c.loop-id-item.result c.loop-id-item.result
-      c.loop-id-test.true c.loop-id-item.is c.loop-id.invariant.puts c.in_ok-put_leaf.ensures.puts;
-  steady = search rules;
-}
+pub loop-leaf-preserved : goal.loop-leaf-preserved
+loop-leaf-preserved g c =
+    let leaf = g.L.Printed.leaf in
+    let item = c.leaf-item.result in
+    record {
+      puts = puts_item leaf_text (map leaf c.args.leaves.now) c.loop-leaf.leaf-index (leaf item) (leaf item)
+          (leaf_below leaf c.args.leaves.now c.loop-leaf.leaf-index c.loop-leaf-test.true)
+          (leaf_read leaf c.args.leaves.now c.loop-leaf.leaf-index item c.loop-leaf-test.true c.leaf-item.is)
+          c.loop-leaf.invariant.puts c.in_ok-put_leaf.ensures.puts;
+      steady = search rules;
+    }
 
 pub returns-in_err-put_leaf-clause-prefix : goal.returns-in_err-put_leaf-clause-prefix
 returns-in_err-put_leaf-clause-prefix g c =
-    on_err c.from_residual.result (breaks_item leaf_text c.args.leaves.now c.loop-id.id-index c.loop-id-item.result c.loop-id-item.result
-    c.loop-id-test.true c.loop-id-item.is c.loop-id.invariant.puts c.in_err-put_leaf.ensures.prefix)
+    let leaf = g.L.Printed.leaf in
+    let item = c.leaf-item.result in
+    on_err c.from_residual.result (breaks_item leaf_text (map leaf c.args.leaves.now) c.loop-leaf.leaf-index (leaf item) (leaf item)
+    (leaf_below leaf c.args.leaves.now c.loop-leaf.leaf-index c.loop-leaf-test.true)
+    (leaf_read leaf c.args.leaves.now c.loop-leaf.leaf-index item c.loop-leaf-test.true c.leaf-item.is)
+    c.loop-leaf.invariant.puts c.in_err-put_leaf.ensures.prefix)
+
+pub returns-clause-puts : goal.returns-clause-puts
+returns-clause-puts g c =
+    let leaf = g.L.Printed.leaf in
+    puts_items leaf_text (map leaf c.args.leaves.now) c.loop-leaf.leaf-index
+    (omega (arith, length-map c.args.leaves.now leaf, c.loop-leaf-test.false)) c.loop-leaf.invariant.puts

@@ -1,4 +1,4 @@
-use Rattle.std.proofs.Common.{codes, flat_map}
+use Rattle.std.proofs.Common.{codes, flat_map, map}
 use Rattle.std.proofs.lemmas.Result.{on_ok_weaker, on_err_weaker}
 use Rattle.bf_case.specs.MapText.{leaf_text, map_text}
 use Rattle.bf_cli.proofs.PageLemmas.{puts_more, breaks_after, breaks_early, on_err}
@@ -7,7 +7,7 @@ use Rattle.bf_cli.proofs.printer.put_map.Goals as goal
 pub returns-in_err-put_leaves-clause-prefix : goal.returns-in_err-put_leaves-clause-prefix
 unfolding map_text
 returns-in_err-put_leaves-clause-prefix g c =
-    on_err c.from_residual.result (breaks_early c.args.page.now (flat_map leaf_text c.args.leaves.now) (codes "end\n") c.in_err-put_leaves.ensures.prefix)
+    on_err c.from_residual.result (breaks_early c.args.page.now (flat_map leaf_text (map g.L.Printed.leaf c.args.leaves.now)) (codes "end\n") c.in_err-put_leaves.ensures.prefix)
 
 pub returns-clause-puts : goal.returns-clause-puts
 unfolding map_text

@@ -1,0 +1,45 @@
+-- The text of a finished world.
+use Rattle.std.proofs.Common.{◌≡◌, ℕ, List, map, ap, sym, subst, ◌∙◌}
+use Rattle.std.specs.Prelude.{IsPermutation, IsTrue, Some}
+use Rattle.std.specs.Borrow.{Bor}
+use Rattle.std.specs.List.Sorted.{IsNonDecreasingBy}
+use Rattle.std.proofs.lemmas.Simd.{map-map}
+use Rattle.bf_case.specs.MapText.{map_text}
+use Rattle.bf_case.specs.Model.{model}
+use Rattle.bf_case.specs.declared.case.Case.{Case}
+use Rattle.bf_block.specs.Block.{BlockValue}
+use Rattle.bf_block.specs.Runs.{CanRun}
+use Rattle.bf_block.specs.declared.setup.Setup.{Setup}
+use Rattle.bf_block.specs.Setup.{case_of, every_setup_runs}
+use Rattle.bf_core.specs.declared.event.Event.{Event}
+use Rattle.bf_core.specs.declared.outcome.Outcome.TheVariants.{Finished}
+use Rattle.bf_world.specs.Runs.{run_after, is_journal}
+use Rattle.bf_world.specs.Worlds.{IsView, core_after}
+use Rattle.bf_forest.specs.Gathered.{leaf_of}
+use Rattle.bf_forest.specs.Leaves.{AreLeaves}
+use Rattle.bf_forest.specs.Meanings.{forest}
+use Rattle.bf_driven.specs.Parcels.{blocks_of}
+use Rattle.bf_cli.specs.Answers.{model_text}
+use Rattle.bf_cli.specs.Driven.{ForestWorld, outcome_of}
+
+-- what is known of every finished run, and of its leaves in order
+abbrev pub HasLeaves : Type 0
+HasLeaves = (setup : Setup) (journal : List Event) → IsTrue (is_journal forest setup journal)
+    → (core_after forest setup journal).outcome ≡ Some Finished
+    → AreLeaves (model (case_of setup) (case_of setup).steps) (blocks_of (run_after forest setup journal).parcels)
+
+abbrev pub AreInOrder : Type 0
+AreInOrder = (c : Case) (time : ℕ) (blocks sorted : List BlockValue) → CanRun c → AreLeaves (model c time) blocks
+    → IsPermutation blocks sorted → IsNonDecreasingBy (λ (block : BlockValue). block.id.root) sorted
+    → map leaf_of sorted ≡ model c time
+
+pub finished_text : (world : ForestWorld) (blocks : List (Bor BlockValue)) → HasLeaves → AreInOrder → IsView forest world → outcome_of world ≡ Some Finished
+    → IsPermutation (blocks_of world.parcels) (map (λ block. block.now) blocks)
+    → IsNonDecreasingBy (λ (block : BlockValue). block.id.root) (map (λ block. block.now) blocks)
+    → map_text (map (λ block. leaf_of block.now) blocks) ≡ model_text (case_of world.setup)
+finished_text world blocks has order is finished same rising =
+    let c = case_of world.setup in
+    let leaves : AreLeaves (model c c.steps) (blocks_of world.parcels) =
+    subst (λ l. AreLeaves (model c c.steps) (blocks_of l)) (sym is.parcels) (has world.setup world.journal is.legal finished) in
+    ap map_text (sym (map-map leaf_of (λ (block : Bor BlockValue). block.now) blocks)
+    ∙ order c c.steps (blocks_of world.parcels) (map (λ block. block.now) blocks) (every_setup_runs world.setup) leaves same rising)
