@@ -28,9 +28,9 @@ use Rattle.bf_core.specs.declared.event.How.{How}
 use Rattle.bf_core.proofs.StageLemmas.{nobody, nobody_any, stage_dissolved}
 use Rattle.bf_core.proofs.ListLemmas.{all_at}
 use Rattle.bf_core.proofs.SoundLemmas.{commit_when_done}
-use Rattle.std.proofs.lemmas.List.FromFn.{get_or-map-range_with_len}
+use Rattle.bf_world.proofs.HoldLemmas.{begins_at}
 use Rattle.bf_world.specs.Course.{first_place}
-use Rattle.bf_world.specs.Runs.{Run, place, begun, first_places, last_locals, will_be_filled, run_happened, run_decided, run_settled, next_run}
+use Rattle.bf_world.specs.Runs.{Run, place, begun, last_locals, will_be_filled, run_happened, run_decided, run_settled, next_run}
 use Rattle.bf_rank.specs.declared.stand.Stand.{Stand}
 use Rattle.bf_rank.specs.declared.stand.Stand.TheVariants as stands
 use Rattle.bf_rank.specs.Ranks.{RankView, Sight, sight, IsSaved, WillBegin, HasLocal, Agrees}
@@ -135,13 +135,6 @@ module _ {S L M T R : Type 0} (m : Meanings S L M T R) (good : S → Epoch → �
       by_stage Dead at quiet has = absurd has
       by_stage Gone at quiet has = absurd has
 
-  -- a rank stands at its first place where an epoch begins
-  pub begun_place : (core : State) (start : List L) (parcels : List (ℕ × T)) (rank : ℕ) → rank < m.ranks setup
-      → place (begun m setup core start parcels) rank ≡ first_place m setup core.epoch start rank
-  unfolding first_places
-  begun_place core start parcels rank ranked =
-      get_or-map-range_with_len (first_place m setup core.epoch start) 0 (m.ranks setup) rank rank Past ranked (omega arith)
-
   -- a decision that begins an epoch: whoever has arrived has what it begins with
   agrees_begun : (run : Run L T) (core : State) (start : List L) (parcels : List (ℕ × T)) (view : RankView L) (stand : Stand) → core.outcome ≡ None → view.rank < m.ranks setup → is_awaited (stage run.core view.rank) ≡ false
       → stage core view.rank ≡ after_decision (stage run.core view.rank)
@@ -159,7 +152,7 @@ module _ {S L M T R : Type 0} (m : Meanings S L M T R) (good : S → Epoch → �
       by_stage : (s : Stage) → stage run.core view.rank ≡ s → is_awaited s ≡ false → HasLocal m good setup (sight run view.rank) view s
           → HasLocal m good setup (sight (begun m setup core start parcels) view.rank) view (after_decision s)
       by_stage (Arrived how filled) at quiet has =
-          ((λ none. (begun_place core start parcels view.rank ranked, begins how filled at has)), (λ ends. absurd (let e : None ≡ Some outcomes.Finished = sym on ∙ ends in cc)))
+          ((λ none. (begins_at m setup core start parcels view.rank ranked, begins how filled at has)), (λ ends. absurd (let e : None ≡ Some outcomes.Finished = sym on ∙ ends in cc)))
       by_stage Leaving at quiet has = absurd (cc)
       by_stage Running at quiet has = absurd has
       by_stage Ended at quiet has = absurd has
