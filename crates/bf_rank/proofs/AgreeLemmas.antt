@@ -111,7 +111,7 @@ module _ {S L M T R : Type 0} (m : Meanings S L M T R) (good : S → Epoch → �
   unfolding dissolved
   agrees_ended run outcome view stands.Opening awaits done agrees = absurd (let e : true ≡ false = sym (ap is_awaited agrees.0) ∙ awaits in cc)
   agrees_ended run outcome view (stands.Placed at) awaits done agrees = absurd (let e : true ≡ false = sym (ap is_awaited agrees.0) ∙ awaits in cc)
-  agrees_ended run outcome view stands.Failed awaits done agrees = absurd (let e : true ≡ false = sym (ap is_awaited agrees) ∙ awaits in cc)
+  agrees_ended run outcome view stands.Failed awaits done agrees = absurd (let e : true ≡ false = sym (ap is_awaited agrees.0) ∙ awaits in cc)
   agrees_ended run outcome view stands.Ended awaits done agrees = ap goes_on (stage_dissolved run.core view.rank) ∙ rests_on (stage run.core view.rank) agrees
   agrees_ended run outcome view stands.Arrived awaits done agrees =
       let P : Stage → Type 0 = HasLocal m good setup (sight (record run { core = ended run.core outcome }) view.rank) view in
@@ -143,7 +143,7 @@ module _ {S L M T R : Type 0} (m : Meanings S L M T R) (good : S → Epoch → �
       → Agrees m good setup (sight run view.rank) view stand → Agrees m good setup (sight (begun m setup core start parcels) view.rank) view stand
   agrees_begun run core start parcels view stands.Opening on ranked awaits same begins agrees = absurd (let e : true ≡ false = sym (ap is_awaited agrees.0) ∙ awaits in cc)
   agrees_begun run core start parcels view (stands.Placed at) on ranked awaits same begins agrees = absurd (let e : true ≡ false = sym (ap is_awaited agrees.0) ∙ awaits in cc)
-  agrees_begun run core start parcels view stands.Failed on ranked awaits same begins agrees = absurd (let e : true ≡ false = sym (ap is_awaited agrees) ∙ awaits in cc)
+  agrees_begun run core start parcels view stands.Failed on ranked awaits same begins agrees = absurd (let e : true ≡ false = sym (ap is_awaited agrees.0) ∙ awaits in cc)
   agrees_begun run core start parcels view stands.Ended on ranked awaits same begins agrees = ap goes_on same ∙ rests_on (stage run.core view.rank) agrees
   agrees_begun run core start parcels view stands.Arrived on ranked awaits same begins agrees =
       let P : Stage → Type 0 = HasLocal m good setup (sight (begun m setup core start parcels) view.rank) view in
