@@ -65,7 +65,8 @@ dead_stays state event filled step same (rank, (within, dead)) =
     differs : rank ≡ actor event → ⊥
     differs is_actor = let e : true ≡ false = sym step.went ∙ sym (ap (λ r. goes_on (stage state r)) is_actor) ∙ not_going (stage state rank) dead in cc
 
-happened_size : (state : State) (event : Event) (filled : Bool) → length (happened state event filled).standings ≡ length state.standings
+-- no event changes the number of standings
+pub happened_size : (state : State) (event : Event) (filled : Bool) → length (happened state event filled).standings ≡ length state.standings
 happened_size state (Send rank to blocks sum) filled = length-set state.standings rank _
 happened_size state (Recv rank peer) filled = length-set state.standings rank _
 happened_size state (Arrive rank how) filled = length-set state.standings rank _

@@ -335,6 +335,12 @@ not_gone Gone gone = absurd (cc)
 pub acting : (state : State) (rank : ℕ) → is_active state rank ≡ true → stage state rank ≡ Running
 acting state rank active = running_stage state rank (first_of_two (is_running (stage state rank)) (not (is_due state rank)) active)
 
+-- whoever may arrive does its rounds
+pub active_of : (state : State) (rank : ℕ) (how : How) (place : Place) → is_legal state (Arrive rank how) place ≡ true → is_active state rank ≡ true
+active_of state rank hows.Done place legal = first_of_two (is_active state rank) _ legal
+active_of state rank hows.Broken place legal = first_of_two (is_active state rank) _ (first_of_two (is_active state rank && waits state rank place) _ legal)
+active_of state rank hows.Memory place legal = legal
+
 pub in_list : (state : State) (rank : ℕ) → stage state rank ≡ Running → rank < length state.standings
 in_list state rank runs = is_rank is_running state rank refl (ap is_running runs)
 

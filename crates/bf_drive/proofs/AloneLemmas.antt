@@ -2,7 +2,7 @@
 use Rattle.std.proofs.Common.{◌≡◌, ℕ, zero, suc, ◌<◌, Bool, true, false, ◌&&◌, ◌||◌, not, List, [], ◌∷◌, ◌++◌, length, refl, sym, subst, ◌∙◌, ap, inl, inr, cond, arith}
 use Rattle.std.specs.Prelude.{◌==◌, ◌⊎◌, IsTrue, nat_lt, Option, Some, None, slice_get}
 use Rattle.std.specs.List.{range_with_len, list_any}
-use Rattle.std.proofs.lemmas.Bool.{eqb-true, eq-eqb, lt-ltb}
+use Rattle.std.proofs.lemmas.Bool.{and_parts, eqb-true, eq-eqb, lt-ltb}
 use Rattle.bf_program.specs.declared.epoch.Epoch.{Epoch}
 use Rattle.bf_program.specs.Meanings.{Meanings}
 use Rattle.bf_core.specs.declared.event.Event.{Event}
@@ -24,22 +24,18 @@ use Rattle.bf_rank.specs.Ranks.{IsTurn}
 use Rattle.bf_drive.specs.Drives.{Turned, Turns, Passes, IsDriven, NobodyWantsMemory}
 use Rattle.bf_drive.proofs.StayLemmas.{first_legal, last_legal}
 
-both_hold : (a b : Bool) → (a && b) ≡ true → (a ≡ true) × (b ≡ true)
-both_hold true b holds = (refl, holds)
-both_hold false b holds = absurd (cc)
-
 -- ---- which steps a rank may have at once
 
 -- a rank that is to die does nothing else
 not_due : (state : State) (rank : ℕ) → is_active state rank ≡ true → is_due state rank ≡ true → ⊥
-not_due state rank active due = by_due (is_due state rank) (both_hold (is_running (stage state rank)) (not (is_due state rank)) active).1 due
+not_due state rank active due = by_due (is_due state rank) (and_parts (is_running (stage state rank)) (not (is_due state rank)) active).1 due
   where
     by_due : (b : Bool) → not b ≡ true → b ≡ true → ⊥
     by_due true fails holds = absurd (cc)
     by_due false fails holds = absurd (cc)
 
 not_leaving_due : (state : State) (rank : ℕ) → (is_leaving (stage state rank) && not (is_due state rank)) ≡ true → is_due state rank ≡ true → ⊥
-not_leaving_due state rank leaving due = by_due (is_due state rank) (both_hold (is_leaving (stage state rank)) (not (is_due state rank)) leaving).1 due
+not_leaving_due state rank leaving due = by_due (is_due state rank) (and_parts (is_leaving (stage state rank)) (not (is_due state rank)) leaving).1 due
   where
     by_due : (b : Bool) → not b ≡ true → b ≡ true → ⊥
     by_due true fails holds = absurd (cc)
@@ -47,7 +43,7 @@ not_leaving_due state rank leaving due = by_due (is_due state rank) (both_hold (
 
 not_active_leaving : (state : State) (rank : ℕ) → is_active state rank ≡ true → (is_leaving (stage state rank) && not (is_due state rank)) ≡ true → ⊥
 not_active_leaving state rank active leaving =
-    by_stage (stage state rank) (both_hold (is_running (stage state rank)) _ active).0 (both_hold (is_leaving (stage state rank)) _ leaving).0
+    by_stage (stage state rank) (and_parts (is_running (stage state rank)) _ active).0 (and_parts (is_leaving (stage state rank)) _ leaving).0
   where
     by_stage : (s : Stage) → is_running s ≡ true → is_leaving s ≡ true → ⊥
     by_stage stages.Running runs leaves = absurd (cc)
@@ -101,30 +97,30 @@ not_both false holds fails = absurd (cc)
 -- what a legal event tells of its rank
 sends : (state : State) (rank to blocks sum : ℕ) (at : Place) → is_legal state (Send rank to blocks sum) at ≡ true
     → (is_active state rank ≡ true) × (is_just (next_send at) to ≡ true)
-sends state rank to blocks sum at legal = both_hold (is_active state rank) _ legal
+sends state rank to blocks sum at legal = and_parts (is_active state rank) _ legal
 
 receives : (state : State) (rank peer : ℕ) (at : Place) → is_legal state (Recv rank peer) at ≡ true
     → (is_active state rank ≡ true) × ((is_just (next_receive at) peer ≡ true) × (not (waits state rank at) ≡ true))
 receives state rank peer at legal =
-    let parts = both_hold (is_active state rank && is_just (next_receive at) peer) _ legal in
-    let first = both_hold (is_active state rank) _ parts.0 in (first.0, (first.1, parts.1))
+    let parts = and_parts (is_active state rank && is_just (next_receive at) peer) _ legal in
+    let first = and_parts (is_active state rank) _ parts.0 in (first.0, (first.1, parts.1))
 
 breaks : (state : State) (rank : ℕ) (at : Place) → is_legal state (Arrive rank Broken) at ≡ true
     → (is_active state rank ≡ true) × (((peer : ℕ) × (is_just (next_receive at) peer ≡ true)) × (waits state rank at ≡ true))
 breaks state rank at legal =
-    let parts = both_hold (is_active state rank) _ (both_hold (is_active state rank && waits state rank at) _ legal).0 in
+    let parts = and_parts (is_active state rank) _ (and_parts (is_active state rank && waits state rank at) _ legal).0 in
     (parts.0, (waits_for state rank at parts.1, parts.1))
 
 arrives : (state : State) (rank : ℕ) (at : Place) → is_legal state (Arrive rank Done) at ≡ true → (is_active state rank ≡ true) × (is_past at ≡ true)
-arrives state rank at legal = both_hold (is_active state rank) _ legal
+arrives state rank at legal = and_parts (is_active state rank) _ legal
 
 module _ {S L M T R : Type 0} (m : Meanings S L M T R) (setup : S) where
   -- a message has one measure
   one_measure : (o : Option M) (blocks sum others more : ℕ) → is_measured m setup o blocks sum ≡ true → is_measured m setup o others more ≡ true → (blocks ≡ others) × (sum ≡ more)
   one_measure None blocks sum others more one other = absurd (cc)
   one_measure (Some msg) blocks sum others more one other =
-      let a = both_hold ((m.measure msg).blocks == blocks) _ one in
-      let b = both_hold ((m.measure msg).blocks == others) _ other in
+      let a = and_parts ((m.measure msg).blocks == blocks) _ one in
+      let b = and_parts ((m.measure msg).blocks == others) _ other in
       (sym (eqb-true _ _ a.0) ∙ eqb-true _ _ b.0, sym (eqb-true _ _ a.1) ∙ eqb-true _ _ b.1)
 
   -- events of one rank, each of them legal and none an arrival for want of memory, are one
@@ -133,7 +129,7 @@ module _ {S L M T R : Type 0} (m : Meanings S L M T R) (setup : S) where
       → tells_truly m setup run (Send rank to blocks sum) ≡ true → tells_truly m setup run (Send rank next others more) ≡ true
       → Send rank to blocks sum ≡ Send rank next others more
   same_sends run rank to blocks sum next others more first second tells truly =
-      let to_is : to ≡ next = just_one (next_send (place run rank)) to next (both_hold (is_active run.core rank) _ first).1 (both_hold (is_active run.core rank) _ second).1 in
+      let to_is : to ≡ next = just_one (next_send (place run rank)) to next (and_parts (is_active run.core rank) _ first).1 (and_parts (is_active run.core rank) _ second).1 in
       let message : ℕ → Option M = λ peer. message_at m setup run.core.epoch run.start rank peer (round_of (place run rank)) in
       let measures = one_measure (message next) blocks sum others more (subst (λ n. is_measured m setup (message n) blocks sum ≡ true) to_is tells) truly in
       let blocks_are = measures.0 in
@@ -230,8 +226,8 @@ module _ {S L M T R : Type 0} (m : Meanings S L M T R) (setup : S) where
       → is_memory e ≡ false → is_memory f ≡ false → e ≡ f
   unfolding is_legal_in
   one_event run e f same legal_e legal_f other none =
-      let a = both_hold (is_legal run.core e (place run (actor e))) _ legal_e in
-      let b = both_hold (is_legal run.core f (place run (actor f))) _ legal_f in
+      let a = and_parts (is_legal run.core e (place run (actor e))) _ legal_e in
+      let b = and_parts (is_legal run.core f (place run (actor f))) _ legal_f in
       two_events run e f same a.0 (subst (λ r. is_legal run.core f (place run r) ≡ true) (sym same) b.0) a.1 b.1 other none
 
 -- ---- turns
@@ -320,7 +316,7 @@ module _ {S L M T R : Type 0} (m : Meanings S L M T R) (good : S → Epoch → �
   ended_still rank old new over quiet (inl (event, (more, turn))) =
       let core = (run_after m setup old).core in
       let rests = nobody_any goes_on core refl (true_not _ over) (actor event) in
-      let legal = (both_hold (is_legal core event (place (run_after m setup old) (actor event))) _ (legal_last old new event more quiet)).0 in
+      let legal = (and_parts (is_legal core event (place (run_after m setup old) (actor event))) _ (legal_last old new event more quiet)).0 in
       absurd (true_false (is_legal core event (place (run_after m setup old) (actor event))) legal (nothing_legal core event (place (run_after m setup old) (actor event)) rests))
 
   turns_still : (ranks : List ℕ) (old new : List Event) → is_finished (run_after m setup old).core ≡ true → IsQuiet new → Turns m good setup ranks old new → new ≡ old

@@ -42,7 +42,7 @@ use Rattle.bf_rank.specs.declared.stand.Turn.TheVariants as turns
 use Rattle.bf_rank.specs.declared.stand.Step.{Step}
 use Rattle.bf_rank.specs.declared.stand.Step.TheVariants as steps
 use Rattle.bf_rank.specs.Ranks.{RankView, Sight, sight, IsLocalAt, local_in_round, HasFinished, HasLocal, WillBegin, Agrees, IsAt, IsTurn, IsOfferedSome, TookTurn}
-use Rattle.bf_rank.specs.Steps.{holding, viewed, local_kept, turn_to, MayStep, HasMoved, HasStepped, TakesNext, ComesTo, Begins, HasPassed, IsBeginning, Gives}
+use Rattle.bf_rank.specs.Steps.{holding, viewed, local_kept, kept, turn_to, MayStep, HasMoved, HasStepped, TakesNext, ComesTo, Begins, HasPassed, IsBeginning, Gives}
 use Rattle.bf_rank.proofs.AgreeLemmas.{agrees_settled}
 use Rattle.bf_rank.proofs.ArriveLemmas.{done_filled, done_parcel, arrives_done, arrives_with_parcel, waiting_offers_nothing, arrived_offers_nothing}
 use Rattle.bf_rank.proofs.TurnLemmas.{MaySend, may_send}
@@ -74,13 +74,14 @@ pub of_setup : {S L M T R : Type 0} (m : Meanings S L M T R) (seen setup : S) (j
     → is_journal m setup journal ≡ true
 of_setup {S = S} m seen setup journal same legal = let P : S → Type 0 = λ s. is_journal m s journal ≡ true in subst P same legal
 
--- one event more of a rank, that a turn may add; it has made all its turns then, and is past its opening
+-- one event more of a rank, that a turn may add; it has made all its turns then, once it drops what it doesn't keep, and is past its
+-- opening
 pub record HasTurned {S L M T R : Type 0} (m : Meanings S L M T R) (good : S → Epoch → ℕ → List L → Type 0) (setup : S) (old new : List Event) (view : RankView L) : Type 0 where
   pub event : Event
   pub more : new ≡ old ++ event ∷ []
   pub turn : IsTurn m good setup old view.rank event
   pub opened : view.stand ≡ stands.Opening → ⊥
-  pub at : IsAt m good setup new view
+  pub at : IsAt m good setup new (kept view)
 
 pub turned : {S L M T R : Type 0} (m : Meanings S L M T R) (good : S → Epoch → ℕ → List L → Type 0) (setup : S) (old new : List Event) (view : RankView L)
     → HasMoved m good setup old new view → HasTurned m good setup old new view
@@ -169,18 +170,18 @@ module _ {S L M T R B U : Type 0} (m : Meanings S L M T R) (regions : Regions S 
 
   -- what agrees with a rank's own event before any decision agrees after it
   moved_at : (new : List Event) (event : Event) (view : RankView L) → view.rank < m.ranks setup → new ≡ journal ++ event ∷ []
-      → Agrees m good setup (sight (run_happened m setup run event) view.rank) view view.stand → IsAt m good setup new view
+      → Agrees m good setup (sight (run_happened m setup run event) view.rank) (kept view) view.stand → IsAt m good setup new (kept view)
   moved_at new event view ranked more agrees = record {
     within = ranked;
-    agrees = let P : Run L T → Type 0 = λ r. Agrees m good setup (sight r view.rank) view view.stand in
+    agrees = let P : Run L T → Type 0 = λ r. Agrees m good setup (sight r view.rank) (kept view) view.stand in
         subst P (sym (ap (run_after m setup) more ∙ run_more m setup journal event))
-        (agrees_settled m good setup laws.saves run event view view.stand ranked lawful.steady.good_start agrees);
+        (agrees_settled m good setup laws.saves run event (kept view) view.stand ranked lawful.steady.good_start agrees);
   }
 
   -- a rank's own event
   pub has_moved : (new : List Event) (event : Event) (view : RankView L) → view.rank < m.ranks setup → new ≡ journal ++ event ∷ []
       → IsOffered (run_after m setup journal).core view.rank (place (run_after m setup journal) view.rank) event → (view.stand ≡ stands.Opening → ⊥)
-      → Agrees m good setup (sight (run_happened m setup run event) view.rank) view view.stand
+      → Agrees m good setup (sight (run_happened m setup run event) view.rank) (kept view) view.stand
       → HasMoved m good setup journal new view
   has_moved new event view ranked more offered opened agrees = record {
     event = event;
@@ -288,7 +289,7 @@ module _ {S L M T R B U : Type 0} (m : Meanings S L M T R) (regions : Regions S 
     waits_as = ap (is_empty_from run.core rank) (ap next_receive stands_at.at_is ∙ next)
 
     moves_on : (after : L) (stand : Stand) → ComesTo m good setup (sight run rank) rank (after_receive m setup run.core.epoch run.start rank at) after stand
-        → Agrees m good setup (sight (run_happened m setup run (Recv rank peer)) rank) (holding rank after epoch stand) stand
+        → Agrees m good setup (sight (run_happened m setup run (Recv rank peer)) rank) (kept (holding rank after epoch stand)) stand
     moves_on after (stands.Placed to) comes = (
       still_runs rank stands_at.runs,
       (
@@ -300,7 +301,7 @@ module _ {S L M T R B U : Type 0} (m : Meanings S L M T R) (regions : Regions S 
         ),
       ),
     )
-    moves_on after stands.Failed comes = still_runs rank stands_at.runs
+    moves_on after stands.Failed comes = (still_runs rank stands_at.runs, refl)
     moves_on after stands.Opening comes = absurd comes
     moves_on after stands.Arrived comes = absurd comes
     moves_on after stands.Ended comes = absurd comes
@@ -393,9 +394,9 @@ module _ {S L M T R B U : Type 0} (m : Meanings S L M T R) (regions : Regions S 
     turn = record { its = refl; offered = inr refl };
     opened = λ opens. absurd (let e : stands.Arrived ≡ stands.Opening = sym stand_is ∙ opens in cc);
     at = moved_at new (Arrive view.rank Memory) view ranked more
-        (let Q : Stand → Type 0 = Agrees m good setup (sight (run_happened m setup run (Arrive view.rank Memory)) view.rank) view in
+        (let Q : Stand → Type 0 = Agrees m good setup (sight (run_happened m setup run (Arrive view.rank Memory)) view.rank) (kept view) in
         subst Q (sym stand_is)
-        (let P : Stage → Type 0 = HasLocal m good setup (sight (run_happened m setup run (Arrive view.rank Memory)) view.rank) view in
+        (let P : Stage → Type 0 = HasLocal m good setup (sight (run_happened m setup run (Arrive view.rank Memory)) view.rank) (kept view) in
         subst P (sym (moved_stage run.core view.rank (Arrived Memory false) (in_list run.core view.rank runs)).its) tt));
   }
 
@@ -407,7 +408,7 @@ module _ {S L M T R B U : Type 0} (m : Meanings S L M T R) (regions : Regions S 
       (has_moved new (Die view.rank) view ranked more
       (record { its = refl; legal = due; memory = λ is. absurd (cc) })
       (λ opens. absurd (let e : stands.Ended ≡ stands.Opening = sym stand_is ∙ opens in cc))
-      (let Q : Stand → Type 0 = Agrees m good setup (sight (run_happened m setup run (Die view.rank)) view.rank) view in
+      (let Q : Stand → Type 0 = Agrees m good setup (sight (run_happened m setup run (Die view.rank)) view.rank) (kept view) in
       subst Q (sym stand_is)
       (ap goes_on (moved_stage run.core view.rank Dead (is_rank goes_on run.core view.rank refl (first_of_two (goes_on (stage run.core view.rank)) _ due))).its)))
 
@@ -525,7 +526,7 @@ module _ {S L M T R B U : Type 0} (m : Meanings S L M T R) (regions : Regions S 
         runs = stage_left leaving ∙ ap (λ o. if is_some o then Ended else Running) none
 
         by_stand : (to : Stand) → ComesTo m good setup (sight run view.rank) view.rank (first_place m setup run.core.epoch run.start view.rank) after to
-            → Agrees m good setup (sight (run_happened m setup run (Leave view.rank)) view.rank) (holding view.rank after epoch to) to
+            → Agrees m good setup (sight (run_happened m setup run (Leave view.rank)) view.rank) (kept (holding view.rank after epoch to)) to
         by_stand (stands.Placed to) comes = (
           runs,
           (
@@ -536,7 +537,7 @@ module _ {S L M T R B U : Type 0} (m : Meanings S L M T R) (regions : Regions S 
             ),
           ),
         )
-        by_stand stands.Failed comes = runs
+        by_stand stands.Failed comes = (runs, refl)
         by_stand stands.Opening comes = absurd comes
         by_stand stands.Arrived comes = absurd comes
         by_stand stands.Ended comes = absurd comes
@@ -645,7 +646,7 @@ goes_where : {S L M T R : Type 0} (m : Meanings S L M T R) (good : S → Epoch �
     → Agrees m good setup seen view stand → (stand ≡ stands.Ended → ⊥) → goes_on seen.stage ≡ true
 goes_where m good setup seen view stands.Opening agrees lasts = ap goes_on agrees.0
 goes_where m good setup seen view (stands.Placed at) agrees lasts = ap goes_on agrees.0
-goes_where m good setup seen view stands.Failed agrees lasts = ap goes_on agrees
+goes_where m good setup seen view stands.Failed agrees lasts = ap goes_on agrees.0
 goes_where m good setup seen view stands.Ended agrees lasts = absurd (lasts refl)
 goes_where m good setup seen view stands.Arrived agrees lasts = by_stage seen.stage agrees
   where
@@ -658,28 +659,12 @@ goes_where m good setup seen view stands.Arrived agrees lasts = by_stage seen.st
     by_stage Gone has = absurd has
 
 module _ {S L M T R : Type 0} (m : Meanings S L M T R) (good : S → Epoch → ℕ → List L → Type 0) (setup : S) (old new : List Event) where
-  -- a rank drops its local where it found no memory and where it ended
-  keeps_account : (seen : Sight L) (rank : ℕ) (local : Option L) (epoch : Epoch) (stand : Stand) → Agrees m good setup seen (viewed rank local epoch stand) stand
-      → Agrees m good setup seen (viewed rank (local_kept local stand) epoch stand) stand
-  keeps_account seen rank local epoch stands.Opening agrees = agrees
-  keeps_account seen rank local epoch (stands.Placed at) agrees = agrees
-  keeps_account seen rank local epoch stands.Arrived agrees = agrees
-  keeps_account seen rank local epoch stands.Failed agrees = agrees
-  keeps_account seen rank local epoch stands.Ended agrees = agrees
-
-  pub at_kept : (view : RankView L) (stand : Stand) → HasTurned m good setup old new (viewed view.rank view.local view.epoch stand)
-      → IsAt m good setup new (viewed view.rank (local_kept view.local stand) view.epoch stand)
-  at_kept view stand moved = record {
-    within = moved.at.within;
-    agrees = keeps_account (sight (run_after m setup new) view.rank) view.rank view.local view.epoch stand moved.at.agrees;
-  }
-
   pub turn_taken : (view : RankView L) (stand : Stand) → HasTurned m good setup old new (viewed view.rank view.local view.epoch stand)
       → TookTurn m good setup old new view.rank (turn_to stand)
-  turn_taken view stands.Opening moved = (goes_where m good setup (sight (run_after m setup new) view.rank) (viewed view.rank view.local view.epoch stands.Opening) stands.Opening moved.at.agrees (λ is. absurd (cc)), (moved.event, (moved.more, moved.turn)))
-  turn_taken view (stands.Placed at) moved = (goes_where m good setup (sight (run_after m setup new) view.rank) (viewed view.rank view.local view.epoch (stands.Placed at)) (stands.Placed at) moved.at.agrees (λ is. absurd (cc)), (moved.event, (moved.more, moved.turn)))
-  turn_taken view stands.Arrived moved = (goes_where m good setup (sight (run_after m setup new) view.rank) (viewed view.rank view.local view.epoch stands.Arrived) stands.Arrived moved.at.agrees (λ is. absurd (cc)), (moved.event, (moved.more, moved.turn)))
-  turn_taken view stands.Failed moved = (goes_where m good setup (sight (run_after m setup new) view.rank) (viewed view.rank view.local view.epoch stands.Failed) stands.Failed moved.at.agrees (λ is. absurd (cc)), (moved.event, (moved.more, moved.turn)))
+  turn_taken view stands.Opening moved = (goes_where m good setup (sight (run_after m setup new) view.rank) (kept (viewed view.rank view.local view.epoch stands.Opening)) stands.Opening moved.at.agrees (λ is. absurd (cc)), (moved.event, (moved.more, moved.turn)))
+  turn_taken view (stands.Placed at) moved = (goes_where m good setup (sight (run_after m setup new) view.rank) (kept (viewed view.rank view.local view.epoch (stands.Placed at))) (stands.Placed at) moved.at.agrees (λ is. absurd (cc)), (moved.event, (moved.more, moved.turn)))
+  turn_taken view stands.Arrived moved = (goes_where m good setup (sight (run_after m setup new) view.rank) (kept (viewed view.rank view.local view.epoch stands.Arrived)) stands.Arrived moved.at.agrees (λ is. absurd (cc)), (moved.event, (moved.more, moved.turn)))
+  turn_taken view stands.Failed moved = (goes_where m good setup (sight (run_after m setup new) view.rank) (kept (viewed view.rank view.local view.epoch stands.Failed)) stands.Failed moved.at.agrees (λ is. absurd (cc)), (moved.event, (moved.more, moved.turn)))
   turn_taken view stands.Ended moved = (moved.at.agrees, inr (moved.event, (moved.more, moved.turn)))
 
   pub turn_over : (view : RankView L) → view.stand ≡ stands.Ended → IsAt m good setup old view → new ≡ old → TookTurn m good setup old new view.rank turns.Ended
@@ -712,7 +697,7 @@ module _ {S L M T R : Type 0} (m : Meanings S L M T R) (good : S → Epoch → �
       subst Q (sym made)
       (record {
         its = ap (λ v. v.rank) is;
-        at = subst (IsAt m good setup new) (sym is) (at_kept (viewed rank local epoch stand) stand moved);
+        at = subst (IsAt m good setup new) (sym is) moved.at;
         turn = turn_taken (viewed rank local epoch stand) stand moved;
         moves = never_waits stand;
         opened = λ opens. moved.opened (sym (ap (λ v. v.stand) is) ∙ opens);

@@ -28,9 +28,9 @@ use Rattle.bf_core.specs.declared.event.How.{How}
 use Rattle.bf_core.proofs.StageLemmas.{nobody, nobody_any, stage_dissolved}
 use Rattle.bf_core.proofs.ListLemmas.{all_at}
 use Rattle.bf_core.proofs.SoundLemmas.{commit_when_done}
-use Rattle.std.proofs.lemmas.List.FromFn.{get_or-map-range_with_len}
+use Rattle.bf_world.proofs.HoldLemmas.{begins_at}
 use Rattle.bf_world.specs.Course.{first_place}
-use Rattle.bf_world.specs.Runs.{Run, place, begun, first_places, last_locals, will_be_filled, run_happened, run_decided, run_settled, next_run}
+use Rattle.bf_world.specs.Runs.{Run, place, begun, last_locals, will_be_filled, run_happened, run_decided, run_settled, next_run}
 use Rattle.bf_rank.specs.declared.stand.Stand.{Stand}
 use Rattle.bf_rank.specs.declared.stand.Stand.TheVariants as stands
 use Rattle.bf_rank.specs.Ranks.{RankView, Sight, sight, IsSaved, WillBegin, HasLocal, Agrees}
@@ -111,7 +111,7 @@ module _ {S L M T R : Type 0} (m : Meanings S L M T R) (good : S → Epoch → �
   unfolding dissolved
   agrees_ended run outcome view stands.Opening awaits done agrees = absurd (let e : true ≡ false = sym (ap is_awaited agrees.0) ∙ awaits in cc)
   agrees_ended run outcome view (stands.Placed at) awaits done agrees = absurd (let e : true ≡ false = sym (ap is_awaited agrees.0) ∙ awaits in cc)
-  agrees_ended run outcome view stands.Failed awaits done agrees = absurd (let e : true ≡ false = sym (ap is_awaited agrees) ∙ awaits in cc)
+  agrees_ended run outcome view stands.Failed awaits done agrees = absurd (let e : true ≡ false = sym (ap is_awaited agrees.0) ∙ awaits in cc)
   agrees_ended run outcome view stands.Ended awaits done agrees = ap goes_on (stage_dissolved run.core view.rank) ∙ rests_on (stage run.core view.rank) agrees
   agrees_ended run outcome view stands.Arrived awaits done agrees =
       let P : Stage → Type 0 = HasLocal m good setup (sight (record run { core = ended run.core outcome }) view.rank) view in
@@ -135,13 +135,6 @@ module _ {S L M T R : Type 0} (m : Meanings S L M T R) (good : S → Epoch → �
       by_stage Dead at quiet has = absurd has
       by_stage Gone at quiet has = absurd has
 
-  -- a rank stands at its first place where an epoch begins
-  pub begun_place : (core : State) (start : List L) (parcels : List (ℕ × T)) (rank : ℕ) → rank < m.ranks setup
-      → place (begun m setup core start parcels) rank ≡ first_place m setup core.epoch start rank
-  unfolding first_places
-  begun_place core start parcels rank ranked =
-      get_or-map-range_with_len (first_place m setup core.epoch start) 0 (m.ranks setup) rank rank Past ranked (omega arith)
-
   -- a decision that begins an epoch: whoever has arrived has what it begins with
   agrees_begun : (run : Run L T) (core : State) (start : List L) (parcels : List (ℕ × T)) (view : RankView L) (stand : Stand) → core.outcome ≡ None → view.rank < m.ranks setup → is_awaited (stage run.core view.rank) ≡ false
       → stage core view.rank ≡ after_decision (stage run.core view.rank)
@@ -150,7 +143,7 @@ module _ {S L M T R : Type 0} (m : Meanings S L M T R) (good : S → Epoch → �
       → Agrees m good setup (sight run view.rank) view stand → Agrees m good setup (sight (begun m setup core start parcels) view.rank) view stand
   agrees_begun run core start parcels view stands.Opening on ranked awaits same begins agrees = absurd (let e : true ≡ false = sym (ap is_awaited agrees.0) ∙ awaits in cc)
   agrees_begun run core start parcels view (stands.Placed at) on ranked awaits same begins agrees = absurd (let e : true ≡ false = sym (ap is_awaited agrees.0) ∙ awaits in cc)
-  agrees_begun run core start parcels view stands.Failed on ranked awaits same begins agrees = absurd (let e : true ≡ false = sym (ap is_awaited agrees) ∙ awaits in cc)
+  agrees_begun run core start parcels view stands.Failed on ranked awaits same begins agrees = absurd (let e : true ≡ false = sym (ap is_awaited agrees.0) ∙ awaits in cc)
   agrees_begun run core start parcels view stands.Ended on ranked awaits same begins agrees = ap goes_on same ∙ rests_on (stage run.core view.rank) agrees
   agrees_begun run core start parcels view stands.Arrived on ranked awaits same begins agrees =
       let P : Stage → Type 0 = HasLocal m good setup (sight (begun m setup core start parcels) view.rank) view in
@@ -159,7 +152,7 @@ module _ {S L M T R : Type 0} (m : Meanings S L M T R) (good : S → Epoch → �
       by_stage : (s : Stage) → stage run.core view.rank ≡ s → is_awaited s ≡ false → HasLocal m good setup (sight run view.rank) view s
           → HasLocal m good setup (sight (begun m setup core start parcels) view.rank) view (after_decision s)
       by_stage (Arrived how filled) at quiet has =
-          ((λ none. (begun_place core start parcels view.rank ranked, begins how filled at has)), (λ ends. absurd (let e : None ≡ Some outcomes.Finished = sym on ∙ ends in cc)))
+          ((λ none. (begins_at m setup core start parcels view.rank ranked, begins how filled at has)), (λ ends. absurd (let e : None ≡ Some outcomes.Finished = sym on ∙ ends in cc)))
       by_stage Leaving at quiet has = absurd (cc)
       by_stage Running at quiet has = absurd has
       by_stage Ended at quiet has = absurd has

@@ -17,7 +17,7 @@ use Rattle.bf_world.specs.Runs.{deaths, opening_run, run_after}
 use Rattle.bf_rank.specs.declared.stand.Stand.TheVariants as stands
 use Rattle.bf_rank.specs.Ranks.{IsAt}
 use Rattle.bf_rank.specs.Steps.{holding}
-use Rattle.bf_rank.proofs.AgreeLemmas.{begun_place}
+use Rattle.bf_world.proofs.HoldLemmas.{begins_at}
 
 module _ {S L M T R : Type 0} (m : Meanings S L M T R) (good : S → Epoch → ℕ → List L → Type 0) (setup : S) (saves : KeepsReads m setup) where
   opening_stage : (rank : ℕ) → rank < m.ranks setup → stage (opening_run {T = T} m setup).core rank ≡ Running
@@ -31,5 +31,5 @@ module _ {S L M T R : Type 0} (m : Meanings S L M T R) (good : S → Epoch → �
   unfolding run_after opening_run opening
   opens_at rank local epoch ranked is its = record {
     within = ranked;
-    agrees = (opening_stage rank ranked, (is, (begun_place m good setup saves (opening_run {T = T} m setup).core (m.opening setup) [] rank ranked, (local, (refl, its)))));
+    agrees = (opening_stage rank ranked, (is, (begins_at m setup (opening_run {T = T} m setup).core (m.opening setup) [] rank ranked, (local, (refl, its)))));
   }

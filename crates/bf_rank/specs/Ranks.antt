@@ -105,7 +105,7 @@ module _ {S L M T R : Type 0} (m : Meanings S L M T R) (good : S → Epoch → �
       (seen.stage ≡ Running) × ((view.epoch ≡ seen.epoch) × ((seen.place ≡ at)
       × ((local : L) × ((view.local ≡ Some local) × IsLocalAt seen view.rank at local))))
   Agrees seen view stands.Arrived = HasLocal seen view seen.stage
-  Agrees seen view stands.Failed = seen.stage ≡ Running
+  Agrees seen view stands.Failed = (seen.stage ≡ Running) × (view.local ≡ None)
   Agrees seen view stands.Ended = goes_on seen.stage ≡ false
 
   -- a rank of this setup that has made all its turns of a journal

@@ -47,6 +47,10 @@ turn_to Ended = turns.Ended
 abbrev pub standing_at : {L : Type 0} → RankView L → Stand → RankView L
 standing_at view stand = record { rank = view.rank; local = view.local; epoch = view.epoch; stand = stand }
 
+-- the same rank with what it keeps of its local at its stand
+abbrev pub kept : {L : Type 0} → RankView L → RankView L
+kept view = viewed view.rank (local_kept view.local view.stand) view.epoch view.stand
+
 module _ {S L M T R : Type 0} (m : Meanings S L M T R) (good : S → Epoch → ℕ → List L → Type 0) (setup : S) where
   -- a rank's local is the lockstep's at the beginning of a round, or after the last
   pub record Begins (seen : Sight L) (epoch : Epoch) (rank round : ℕ) (local : L) : Type 0 where
@@ -115,13 +119,14 @@ module _ {S L M T R : Type 0} (m : Meanings S L M T R) (good : S → Epoch → �
     pub at : IsAt m good setup journal view
     pub undue : is_due (run_after m setup journal).core view.rank ≡ false
 
-  -- one event more of a rank, that it was offered; it has made all its turns then, and is past its opening
+  -- one event more of a rank, that it was offered; it has made all its turns then, once it drops what it doesn't keep, and is past
+  -- its opening
   pub record HasMoved (old new : List Event) (view : RankView L) : Type 0 where
     pub event : Event
     pub more : new ≡ old ++ event ∷ []
     pub offered : IsOffered (run_after m setup old).core view.rank (place (run_after m setup old) view.rank) event
     pub opened : view.stand ≡ Opening → ⊥
-    pub at : IsAt m good setup new view
+    pub at : IsAt m good setup new (kept view)
 
   -- what a step came to: one event more; or none, where none is offered; or none for want of memory, before the rank has arrived,
   -- where it has failed or is offered an event

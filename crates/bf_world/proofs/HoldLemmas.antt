@@ -70,7 +70,7 @@ module _ {S L M T R : Type 0} (m : Meanings S L M T R) (setup : S) where
   died_holds run waiting rank held = record { holds = held.holds }
 
   -- where each rank begins
-  begins_at : (core : State) (start : List L) (parcels : List (ℕ × T)) (rank : ℕ) → rank < m.ranks setup
+  pub begins_at : (core : State) (start : List L) (parcels : List (ℕ × T)) (rank : ℕ) → rank < m.ranks setup
       → place (begun m setup core start parcels) rank ≡ first_place m setup core.epoch start rank
   unfolding first_places
   begins_at core start parcels rank within =

@@ -29,8 +29,8 @@ use Rattle.bf_core.specs.States.{State, standing, stage, is_active, live_members
 use Rattle.bf_core.specs.Legal.{actor, is_legal, waits}
 use Rattle.bf_core.specs.Next.{with_stage, may_decide, happened, is_ripe, decision, decided, dissolved, ended, committed, settled, next}
 use Rattle.bf_core.proofs.StageLemmas.{nobody, Someone, someone, is_rank, stage_same, stage_other, stage_dissolved}
-use Rattle.bf_core.proofs.SoundLemmas.{IsSound, first_of_two, acting, in_list, leaving_stage}
-use Rattle.bf_core.proofs.ArrivalLemmas.{IsFair, happened_fair}
+use Rattle.bf_core.proofs.SoundLemmas.{IsSound, first_of_two, acting, active_of, in_list, leaving_stage}
+use Rattle.bf_core.proofs.ArrivalLemmas.{IsFair, happened_size, happened_fair}
 use Rattle.bf_core.proofs.LawLemmas.{Losses, same_epoch, running_where_ripe, second_of_two, decision_lost, next_settles, next_happens, ripe_decides, unripe_waits}
 use Rattle.bf_world.specs.Ends.{NobodyDies, tells_of_death}
 use Rattle.bf_world.specs.Runs.{Run, place, death_with, deaths, will_be_filled, opening_run, next_run, is_legal_in, run_from, is_legal_from, is_journal}
@@ -95,12 +95,7 @@ happened_peaceful state (Recv rank peer) place filled legal peaceful =
     let kept : IsPeaceful (with_stage state rank (stage state rank)) = staged_peaceful state rank (stage state rank) (in_list state rank runs) (ap lives runs) peaceful in
     record { fated = kept.fated; alive = kept.alive; homes = kept.homes; unlost = kept.unlost }
 happened_peaceful state (Arrive rank how) place filled legal peaceful =
-    staged_peaceful state rank (Arrived how (is_done how && filled)) (in_list state rank (acting state rank (active_of how legal))) refl peaceful
-  where
-    active_of : (how : How) → is_legal state (Arrive rank how) place ≡ true → is_active state rank ≡ true
-    active_of Done may = first_of_two (is_active state rank) _ may
-    active_of Broken may = first_of_two (is_active state rank) _ (first_of_two (is_active state rank && waits state rank place) _ may)
-    active_of Memory may = may
+    staged_peaceful state rank (Arrived how (is_done how && filled)) (in_list state rank (acting state rank (active_of state rank how place legal))) refl peaceful
 happened_peaceful state (Leave rank) place filled legal peaceful =
     let leaving : stage state rank ≡ Leaving = leaving_stage state rank (first_of_two (is_leaving (stage state rank)) _ legal) in
     staged_peaceful state rank (if is_some state.outcome then Ended else Running) (is_rank is_leaving state rank refl (ap is_leaving leaving)) (by_end (is_some state.outcome)) peaceful
@@ -173,13 +168,6 @@ nothing_lost losses state peaceful listed =
     first_holds : (a b : Bool) → a ≡ true → (a || b) ≡ true
     first_holds true b holds = refl
     first_holds false b holds = absurd (cc)
-
-happened_size : (state : State) (event : Event) (filled : Bool) → length (happened state event filled).standings ≡ length state.standings
-happened_size state (Send rank to blocks sum) filled = length-set state.standings rank _
-happened_size state (Recv rank peer) filled = length-set state.standings rank _
-happened_size state (Arrive rank how) filled = length-set state.standings rank _
-happened_size state (Leave rank) filled = length-set state.standings rank _
-happened_size state (Die rank) filled = length-set state.standings rank _
 
 -- what an event of a peaceful run leaves
 module _ (losses : Losses) (state : State) (event : Event) (place : Place) (filled : Bool) (sound : IsSound state) (fair : IsFair state)

@@ -26,7 +26,7 @@ use Rattle.bf_core.specs.States.{State, stage, is_active, opening}
 use Rattle.bf_core.specs.Legal.{is_legal, waits, actor}
 use Rattle.bf_core.specs.Next.{with_stage, may_decide, happened, is_ripe, decision, decided, dissolved, ended, committed, restored}
 use Rattle.bf_core.proofs.StageLemmas.{is_rank, stage_dissolved}
-use Rattle.bf_core.proofs.SoundLemmas.{IsMoved, is_open, moved_stage, same_tests, first_of_two, acting, in_list, leaving_stage, not_gone, opening_fails}
+use Rattle.bf_core.proofs.SoundLemmas.{IsMoved, is_open, moved_stage, same_tests, first_of_two, acting, in_list, leaving_stage, not_gone, active_of, opening_fails}
 use Rattle.bf_core.proofs.LawLemmas.{IsStep, step_of, IsSameEpoch, same_epoch, running_where_ripe, commit_needs_members, second_of_two}
 use Rattle.bf_world.specs.Course.{local_at}
 use Rattle.bf_world.specs.Results.{parcels_of}
@@ -35,6 +35,7 @@ use Rattle.bf_world.proofs.MemberLemmas.{Apart, apart_range}
 use Rattle.bf_world.proofs.OnceLemmas.{member_more, apart_more, member_without, apart_without, none_listed, same_gifts, gifts_of_seats}
 use Rattle.bf_core.proofs.ListLemmas.{in_filtered}
 use Rattle.bf_world.proofs.LawfulLemmas.{IsSteady, IsLawful, happened_steady, last_good, next_lawful, opening_lawful}
+use Rattle.bf_world.proofs.RunLemmas.{ripe_next}
 
 undone : (s : Stage) → is_arrived s ≡ false → has_finished_rounds s ≡ false
 undone Running _ = refl
@@ -358,11 +359,6 @@ module _ {S L M T R : Type 0} (m : Meanings S L M T R) (good : S → Epoch → �
       by_done false undone true is = absurd (let e : true ≡ false = sym (finishes is) ∙ undone in cc)
       by_done false undone false is = refl
 
-  ripe_next : (run : Run L T) (event : Event) → may_decide event ≡ true → is_ripe (run_happened m setup run event).core ≡ true
-      → next_run m setup run event ≡ run_decided m setup (run_happened m setup run event) (decision (run_happened m setup run event).core)
-  unfolding next_run
-  ripe_next run event may ripe = rw (may, ripe) refl
-
   unripe_next : (run : Run L T) (event : Event) → (may_decide event && is_ripe (run_happened m setup run event).core) ≡ false → next_run m setup run event ≡ run_happened m setup run event
   unfolding next_run
   unripe_next run event unripe = by_event (may_decide event) unripe
@@ -394,12 +390,7 @@ module _ {S L M T R : Type 0} (m : Meanings S L M T R) (good : S → Epoch → �
       absurd (let e : true ≡ false = sym (ap is_open (acting run.core rank (first_of_two (is_active run.core rank) _
       (first_of_two (is_active run.core rank && is_just (next_receive (place run rank)) peer) _ legal)))) ∙ lawful.sound.over outcome ends rank in cc)
   over_result run (Arrive rank how) outcome lawful legal ends result =
-      absurd (let e : true ≡ false = sym (ap is_open (acting run.core rank (active_of how legal))) ∙ lawful.sound.over outcome ends rank in cc)
-    where
-      active_of : (how : How) → is_legal run.core (Arrive rank how) (place run rank) ≡ true → is_active run.core rank ≡ true
-      active_of Done may = first_of_two (is_active run.core rank) _ may
-      active_of Broken may = first_of_two (is_active run.core rank) _ (first_of_two (is_active run.core rank && waits run.core rank (place run rank)) _ may)
-      active_of Memory may = may
+      absurd (let e : true ≡ false = sym (ap is_open (acting run.core rank (active_of run.core rank how (place run rank) legal))) ∙ lawful.sound.over outcome ends rank in cc)
   over_result run (Leave rank) outcome lawful legal ends result = record {
     going = λ none. absurd (let e : Some outcome ≡ None = sym ends ∙ none in cc);
     at_end = result.at_end;
@@ -441,7 +432,7 @@ module _ {S L M T R : Type 0} (m : Meanings S L M T R) (good : S → Epoch → �
           let members : (happened run.core event (will_be_filled m setup run (actor event))).epoch.members
           ≡ filter (λ rank. not (is_gone (stage run.core rank))) (range_with_len 0 run.core.ranks) =
           ap (λ epoch. epoch.members) same.epoch ∙ lawful.sound.members none in
-          subst IsResult (sym (ripe_next run event may ripe))
+          subst IsResult (sym (ripe_next m setup run event may ripe))
           (decided_result (run_happened m setup run event) (decision (run_happened m setup run event).core)
           (happened_given m setup run event core_legal (result.going none))
           (happened_steady m good setup run event lawful.steady lawful.sound core_legal)

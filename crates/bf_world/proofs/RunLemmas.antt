@@ -14,13 +14,20 @@ use Rattle.bf_core.specs.declared.standing.Stage.TheVariants.{Running}
 use Rattle.bf_core.specs.declared.standing.Standing.{Standing}
 use Rattle.bf_core.specs.States.{State, standing, opening}
 use Rattle.bf_core.specs.Legal.{actor}
+use Rattle.bf_core.specs.Next.{may_decide, is_ripe, decision}
 use Rattle.bf_core.proofs.RoomLemmas.{events_grow, queues_grow}
 use Rattle.bf_core.proofs.StageLemmas.{nobody}
-use Rattle.bf_world.specs.Runs.{Run, deaths, will_be_filled, opening_run, next_run, is_legal_in, run_from, is_legal_from, run_after, is_journal}
+use Rattle.bf_world.specs.Runs.{Run, deaths, will_be_filled, run_happened, run_decided, opening_run, next_run, is_legal_in, run_from, is_legal_from, run_after, is_journal}
 use Rattle.bf_world.specs.Worlds.{brings_restore, restores_from, restores_in}
 use Rattle.bf_world.proofs.LawfulLemmas.{core_next}
 
 module _ {S L M T R : Type 0} (m : Meanings S L M T R) (setup : S) where
+  -- an event that brings a decision
+  pub ripe_next : (run : Run L T) (event : Event) → may_decide event ≡ true → is_ripe (run_happened m setup run event).core ≡ true
+      → next_run m setup run event ≡ run_decided m setup (run_happened m setup run event) (decision (run_happened m setup run event).core)
+  unfolding next_run
+  ripe_next run event may ripe = rw (may, ripe) refl
+
   run_from_more : (run : Run L T) (journal : List Event) (event : Event)
       → run_from m setup run (journal ++ event ∷ []) ≡ next_run m setup (run_from m setup run journal) event
   run_from_more run [] event = refl

@@ -35,7 +35,7 @@ use Rattle.bf_core.specs.States.{State, stage, is_active, is_short_of_memory, ha
 use Rattle.bf_core.specs.Legal.{actor, is_legal, waits}
 use Rattle.bf_core.specs.Next.{with_stage, may_decide, happened, is_ripe, is_everyone_done, decision, decision_where, decided, settled, dissolved, ended, committed, restored, next}
 use Rattle.bf_core.proofs.StageLemmas.{nobody, Someone, nobody_any, is_rank, stage_same, stage_other, stage_dissolved}
-use Rattle.bf_core.proofs.SoundLemmas.{IsSound, first_of_two, acting, in_list, leaving_stage, not_gone, same_tests}
+use Rattle.bf_core.proofs.SoundLemmas.{IsSound, first_of_two, acting, in_list, leaving_stage, not_gone, same_tests, active_of}
 use Rattle.bf_core.proofs.ArrivalLemmas.{IsFair, is_broken, has_ended, happened_fair}
 use Rattle.bf_core.proofs.LawLemmas.{IsStep, step_of, IsSameEpoch, same_epoch, running_where_ripe, second_of_two, next_settles, next_happens, ripe_decides, unripe_waits}
 use Rattle.bf_world.specs.Course.{peers_at, place_with, place_from, after_send, after_receive}
@@ -48,7 +48,7 @@ use Rattle.bf_world.proofs.PeerLemmas.{peers_rise, peer_is_other}
 use Rattle.bf_world.proofs.PlaceLemmas.{IsPlaced, receives_at}
 use Rattle.bf_world.proofs.RangeLemmas.{sums_less, rising_fewer, sums_within, filter_fewer}
 use Rattle.bf_core.proofs.ListLemmas.{in_filtered, fails_at}
-use Rattle.bf_world.proofs.RunLemmas.{run_more}
+use Rattle.bf_world.proofs.RunLemmas.{run_more, ripe_next}
 use Rattle.bf_world.proofs.WaitingLemmas.{below_end}
 
 -- the target of every epoch is the one of its time
@@ -493,15 +493,10 @@ module _ {S L M T R : Type 0} (m : Meanings S L M T R) (good : S → Epoch → �
       (omega (arith, listed, steady.size, steady.ranks, sound.size)) (omega (arith, listed, steady.ranks, sound.size))
       (receive_steps m setup run.core.epoch run.start rank (place run rank) peer (steady.placed rank) receives)
   happened_less run (Arrive rank how) steady sound legal =
-      let runs : stage run.core rank ≡ Running = acting run.core rank (active_of how legal) in
+      let runs : stage run.core rank ≡ Running = acting run.core rank (active_of run.core rank how (place run rank) legal) in
       let listed : rank < length run.core.standings = in_list run.core rank runs in
       staged_less m setup run _ rank (Arrived how (is_done how && will_be_filled m setup run rank)) listed (omega (arith, listed, steady.ranks, sound.size))
       (arrive_lowers (is_some run.core.outcome) (stage run.core rank) _ runs)
-    where
-      active_of : (how : How) → is_legal run.core (Arrive rank how) (place run rank) ≡ true → is_active run.core rank ≡ true
-      active_of Done may = first_of_two (is_active run.core rank) _ may
-      active_of Broken may = first_of_two (is_active run.core rank) _ (first_of_two (is_active run.core rank && waits run.core rank (place run rank)) _ may)
-      active_of Memory may = may
   happened_less run (Leave rank) steady sound legal =
       let leaving : stage run.core rank ≡ Leaving = leaving_stage run.core rank (first_of_two (is_leaving (stage run.core rank)) _ legal) in
       let listed : rank < length run.core.standings = is_rank is_leaving run.core rank refl (ap is_leaving leaving) in
@@ -600,7 +595,7 @@ module _ {S L M T R : Type 0} (m : Meanings S L M T R) (setup : S) where
 
 module _ {S L M T R : Type 0} (m : Meanings S L M T R) (good : S → Epoch → ℕ → List L → Type 0) (setup : S)
     (goods : KeepsGood m good setup) (stores : KeepsStored m good setup) (peers : KeepsPeers m good setup) (limits : KeepsLimits m setup)
-    (rounds : ℕ) (few_rounds : (epoch : Epoch) → m.rounds setup epoch ≤ rounds) where
+    (rounds : ℕ) (few_rounds : (epoch : Epoch) → epoch.target ≡ target_of (m.steps setup) (m.interval setup) epoch.time → m.rounds setup epoch ≤ rounds) where
   -- a rank has at most as many peers as there are other ranks
   few_peers : (run : Run L T) → IsLawful m good setup goods stores run → run.core.outcome ≡ None → (rank round : ℕ) → rank < m.ranks setup → round < m.rounds setup run.core.epoch
       → length (peers_at m setup run.core.epoch run.start rank round) ≤ m.ranks setup - 1
@@ -624,31 +619,34 @@ module _ {S L M T R : Type 0} (m : Meanings S L M T R) (good : S → Epoch → �
   steps_few run lawful none rank ranked =
       steps_most m setup run.core.epoch run.start (m.ranks setup - 1) rank (place run rank) (λ k within. few_peers run lawful none rank k ranked within) (lawful.steady.placed rank)
 
-  left_bounded : (run : Run L T) → IsLawful m good setup goods stores run → run.core.outcome ≡ None → (rank : ℕ) → rank < m.ranks setup
+  left_bounded : (run : Run L T) → IsLawful m good setup goods stores run → IsTimed run.core → run.core.outcome ≡ None → (rank : ℕ) → rank < m.ranks setup
       → left_of_rank m setup run rank ≤ most_left (m.ranks setup) rounds
   unfolding most_left
-  left_bounded run lawful none rank ranked =
+  left_bounded run lawful timed none rank ranked =
       omega (
         arith,
         left_is m setup run rank,
         left_most (is_some run.core.outcome) (stage run.core rank) (steps_left m setup run.core.epoch run.start rank (place run rank)),
         steps_few run lawful none rank ranked,
-        more_rounds (m.rounds setup run.core.epoch) rounds (m.ranks setup - 1) (few_rounds run.core.epoch),
+        more_rounds (m.rounds setup run.core.epoch) rounds (m.ranks setup - 1) (few_rounds run.core.epoch of_run),
       )
     where
+      of_run : run.core.epoch.target ≡ target_of (m.steps setup) (m.interval setup) run.core.epoch.time
+      of_run = timed.target ∙ ap (λ s. target_of s run.core.interval run.core.epoch.time) lawful.steady.steps
+          ∙ ap (λ i. target_of (m.steps setup) i run.core.epoch.time) lawful.steady.interval
+
       more_rounds : (a b n : ℕ) → a ≤ b → a * n ≤ n * b
       more_rounds a b n less = omega (arith, mul-le-mul_left n less)
 
   -- while a run goes on, what is left of all ranks is within the bound
-  pub total_bounded : (run : Run L T) → IsLawful m good setup goods stores run → run.core.outcome ≡ None → total m setup run ≤ bound m setup rounds
+  pub total_bounded : (run : Run L T) → IsLawful m good setup goods stores run → IsTimed run.core → run.core.outcome ≡ None → total m setup run ≤ bound m setup rounds
   unfolding total bound
-  total_bounded run lawful none =
-      sums_within (left_of_rank m setup run) 0 (m.ranks setup) (most_left (m.ranks setup) rounds) (λ rank from below. left_bounded run lawful none rank (omega (arith, below)))
+  total_bounded run lawful timed none =
+      sums_within (left_of_rank m setup run) 0 (m.ranks setup) (most_left (m.ranks setup) rounds) (λ rank from below. left_bounded run lawful timed none rank (omega (arith, below)))
 
-  next_decides : (run : Run L T) (event : Event) → may_decide event ≡ true → is_ripe (run_happened m setup run event).core ≡ true
-      → next_run m setup run event ≡ run_decided m setup (run_happened m setup run event) (decision (run_happened m setup run event).core)
-  unfolding next_run
-  next_decides run event may ripe = rw (may, ripe) refl
+  -- the target of each epoch of a run is the one of its time
+  pub next_run_timed : (run : Run L T) (event : Event) → IsTimed run.core → IsTimed (next_run m setup run event).core
+  next_run_timed run event timed = subst IsTimed (sym (core_next m good setup goods stores run event)) (next_timed run.core event (will_be_filled m setup run (actor event)) timed)
 
   -- every legal event lowers the weight
   pub weight_falls : (run : Run L T) (event : Event) → IsLawful m good setup goods stores run → IsTimed run.core → is_legal_in m setup run event ≡ true
@@ -665,6 +663,9 @@ module _ {S L M T R : Type 0} (m : Meanings S L M T R) (good : S → Epoch → �
       state : State
       state = happened run.core event (will_be_filled m setup run (actor event))
 
+      Timed : Run L T → Type 0
+      Timed after = IsTimed after.core
+
       some : 1 ≤ (happened run.core event (will_be_filled m setup run (actor event))).interval
       some = omega (arith, happened_interval run.core event (will_be_filled m setup run (actor event)), lawful.steady.interval, limits.some_interval)
 
@@ -677,7 +678,8 @@ module _ {S L M T R : Type 0} (m : Meanings S L M T R) (good : S → Epoch → �
           some
           (restore_missing run.core event (place run (actor event)) (will_be_filled m setup run (actor event)) lawful.sound lawful.fair core_legal ripe)
           (total_bounded (run_decided m setup (run_happened m setup run event) (decision state))
-          (subst (IsLawful m good setup goods stores) (next_decides run event may ripe) (next_lawful m good setup goods stores run event lawful legal)))
+          (subst (IsLawful m good setup goods stores) (ripe_next m setup run event may ripe) (next_lawful m good setup goods stores run event lawful legal))
+          (subst Timed (ripe_next m setup run event may ripe) (next_run_timed run event timed)))
 
       by_ripe : may_decide event ≡ true → (b : Bool) → is_ripe state ≡ b
           → weight_within m setup rounds (if b then run_decided m setup (run_happened m setup run event) (decision state) else run_happened m setup run event) < weight_within m setup rounds run
@@ -687,10 +689,6 @@ module _ {S L M T R : Type 0} (m : Meanings S L M T R) (good : S → Epoch → �
       by_event : (b : Bool) → may_decide event ≡ b → weight_within m setup rounds (if b then run_settled m setup (run_happened m setup run event) else run_happened m setup run event) < weight_within m setup rounds run
       by_event true may = by_ripe may (is_ripe state) refl
       by_event false may = before
-
-  -- the target of each epoch of a run is the one of its time
-  pub next_run_timed : (run : Run L T) (event : Event) → IsTimed run.core → IsTimed (next_run m setup run event).core
-  next_run_timed run event timed = subst IsTimed (sym (core_next m good setup goods stores run event)) (next_timed run.core event (will_be_filled m setup run (actor event)) timed)
 
   from_timed : (run : Run L T) (journal : List Event) → IsTimed run.core → IsTimed (run_from m setup run journal).core
   from_timed run [] timed = timed
@@ -732,7 +730,7 @@ module _ {S L M T R : Type 0} (m : Meanings S L M T R) (good : S → Epoch → �
       lightens (opening_run m setup) journal (opening_lawful m good setup goods stores limits) opening_run_timed legal
 
   opening_total : total m setup (opening_run m setup) ≤ bound m setup rounds
-  opening_total = total_bounded (opening_run m setup) (opening_lawful m good setup goods stores limits) (opening_unended m setup)
+  opening_total = total_bounded (opening_run m setup) (opening_lawful m good setup goods stores limits) opening_run_timed (opening_unended m setup)
 
   -- and than what all ranks may do in all epochs
   pub journal_short : (journal : List Event) → is_journal m setup journal ≡ true → length journal ≤ most_events m setup rounds
@@ -754,7 +752,7 @@ module _ {S L M T R : Type 0} (m : Meanings S L M T R) (good : S → Epoch → �
   -- the same, whatever the numbers of rounds
   pub journal_falls : (journal : List Event) (event : Event) → is_journal m setup journal ≡ true → is_legal_in m setup (run_after m setup journal) event ≡ true
       → weight m setup (run_after m setup (journal ++ event ∷ [])) < weight m setup (run_after m setup journal)
-  journal_falls = journal_lowers m good setup goods stores peers limits (2 ^ 32 - 1) (λ epoch. omega (arith, limits.rounds epoch))
+  journal_falls = journal_lowers m good setup goods stores peers limits (2 ^ 32 - 1) (λ epoch of_run. omega (arith, limits.rounds epoch))
 
   restores_bounded : (run : Run L T) (journal : List Event) (before : ℕ) → IsLawful m good setup goods stores run → is_legal_from m setup run journal ≡ true
       → restores_from m setup run journal before + length (run_from m setup run journal).core.epoch.members ≤ before + length run.core.epoch.members
