@@ -1,5 +1,5 @@
 -- A rank's account agrees with the run through other ranks' events and through decisions.
-use Rattle.std.proofs.Common.{◌≡◌, ◌≢◌, ℕ, ◌<◌, Bool, true, false, cond, ◌||◌, not, List, [], ◌∷◌, map, filter, arith, refl, sym, subst, ◌∙◌, ap}
+use Rattle.std.proofs.Common.{◌≡◌, ◌≢◌, ℕ, ◌<◌, Bool, true, false, cond, ◌||◌, not, List, [], ◌∷◌, map, filter, refl, sym, subst, ◌∙◌, ap}
 use Rattle.std.specs.Prelude.{◌==◌, Option, Some, None, is_some, if◌then◌else◌}
 use Rattle.std.proofs.lemmas.List.{get_or-set_other}
 use Rattle.bf_buddy.specs.Members.{is_member}
@@ -29,7 +29,6 @@ use Rattle.bf_core.proofs.StageLemmas.{nobody, nobody_any, stage_dissolved}
 use Rattle.bf_core.proofs.ListLemmas.{all_at}
 use Rattle.bf_core.proofs.SoundLemmas.{commit_when_done}
 use Rattle.bf_world.proofs.HoldLemmas.{begins_at}
-use Rattle.bf_world.specs.Course.{first_place}
 use Rattle.bf_world.specs.Runs.{Run, place, begun, last_locals, will_be_filled, run_happened, run_decided, run_settled, next_run}
 use Rattle.bf_rank.specs.declared.stand.Stand.{Stand}
 use Rattle.bf_rank.specs.declared.stand.Stand.TheVariants as stands

@@ -14,7 +14,6 @@ use Rattle.bf_core.specs.declared.decision.Decision.{Decision}
 use Rattle.bf_core.specs.declared.decision.Decision.TheVariants.{Lose, WantMemory, Commit, Restore}
 use Rattle.bf_core.specs.declared.event.Event.{Event}
 use Rattle.bf_core.specs.declared.event.Event.TheVariants.{Send, Recv, Arrive, Leave, Die}
-use Rattle.bf_core.specs.declared.event.How.{How}
 use Rattle.bf_core.specs.declared.event.How.TheVariants.{Done, Broken, Memory}
 use Rattle.bf_core.specs.declared.outcome.Outcome.{Outcome}
 use Rattle.bf_core.specs.declared.outcome.Outcome.TheVariants as outcomes

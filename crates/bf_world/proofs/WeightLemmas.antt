@@ -32,7 +32,7 @@ use Rattle.bf_core.specs.declared.standing.Standing.{Standing}
 use Rattle.bf_core.specs.Stages.{is_done, is_leaving, is_awaited, is_short, is_dead, is_gone, has_finished_rounds, goes_on, lives, after_decision}
 use Rattle.bf_core.specs.Places.{is_just, next_send, next_receive}
 use Rattle.bf_core.specs.States.{State, stage, is_active, is_short_of_memory, has_everyone_arrived, live_members, opening}
-use Rattle.bf_core.specs.Legal.{actor, is_legal, waits}
+use Rattle.bf_core.specs.Legal.{actor, is_legal}
 use Rattle.bf_core.specs.Next.{with_stage, may_decide, happened, is_ripe, is_everyone_done, decision, decision_where, decided, settled, dissolved, ended, committed, restored, next}
 use Rattle.bf_core.proofs.StageLemmas.{nobody, Someone, nobody_any, is_rank, stage_same, stage_other, stage_dissolved}
 use Rattle.bf_core.proofs.SoundLemmas.{IsSound, first_of_two, acting, in_list, leaving_stage, not_gone, same_tests, active_of}

@@ -36,7 +36,7 @@ left_of over Ended steps = 0
 left_of over Dead steps = 0
 left_of over Gone steps = 0
 
--- how many decisions may still come: a commit for each interval up to the last step, and one that leaves a member behind or ends
+-- at least as many as decisions may still come: a commit for each interval up to the last step, and one that leaves a member behind or ends
 -- the run for each member
 unfoldable pub epochs_left : State → ℕ
 epochs_left state =
@@ -60,11 +60,11 @@ module _ {S L M T R : Type 0} (m : Meanings S L M T R) (setup : S) where
   unfoldable pub bound : (rounds : ℕ) → ℕ
   bound rounds = m.ranks setup * most_left (m.ranks setup) rounds
 
-  -- how many events may still come, where no epoch has more rounds than so many
+  -- at least as many as events may still come, where no epoch has more rounds than so many
   unfoldable pub weight_within : (rounds : ℕ) → Run L T → ℕ
   weight_within rounds run = bound rounds * epochs_left run.core + total run
 
-  -- how many events may still come: a number of rounds has 32 bits
+  -- at least as many as events may still come, whatever the numbers of rounds: such a number has 32 bits
   abbrev pub weight : Run L T → ℕ
   weight run = weight_within (2 ^ 32 - 1) run
 
