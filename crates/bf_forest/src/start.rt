@@ -21,8 +21,8 @@ fn has_root(setup: &Setup, rank: u32) -> bool
     false
 }
 
-#[tactic(auto, using(crate::proofs::StartSteps::start_steps))]
 /// The ranks at which a root begins: those whose part of the opening's snapshot has a block.
+#[tactic(auto, using(crate::proofs::StartSteps::start_steps))]
 pub fn laid(setup: &Setup) -> Members
     ensures { result ≡ forest.laid setup.now }
 {
