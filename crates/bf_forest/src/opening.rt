@@ -1,8 +1,6 @@
 //! The ranks' locals at the opening.
 ghost use Rattle.std.specs.Prelude.{◌≡◌, ℕ, ◌+◌, ◌<◌, List, map, IfOk};
 ghost use Rattle.std.specs.List.{range_with_len};
-ghost use Rattle.bf_id.specs.Shape.{root_count};
-ghost use Rattle.bf_case.specs.Case.{first_rank_of};
 ghost use Rattle.bf_block.specs.Block.{BlockValue};
 ghost use Rattle.bf_block.specs.Setup.{case_of};
 ghost use Rattle.bf_parts.specs.Openings.{other_items};
@@ -16,14 +14,6 @@ use bf_items::Items;
 use bf_parts::Side;
 use std::alloc::Global;
 
-/// The rank at which a root begins.
-pub fn first_rank(setup: &Setup, root: u32) -> u32
-    requires { root < root_count (case_of setup.now).roots }
-    ensures { result ≡ first_rank_of (case_of setup.now) root }
-{
-    root * setup.ranks() / setup.root_count()
-}
-
 // The roots that begin at a rank, filled.
 fn first_blocks(
     alloc: Global,
@@ -36,7 +26,7 @@ fn first_blocks(
 {
     let mut blocks = Vec::new(alloc);
     for root in 0..setup.root_count() {
-        if first_rank(setup, root) == rank {
+        if setup.root_rank(root) == rank {
             blocks.push(Block::initial(alloc, opening, root)?)?;
         }
     }

@@ -4,7 +4,6 @@ ghost use Rattle.bf_block.specs.Setup.{case_of};
 ghost use Rattle.bf_forest.specs.Meanings.{forest};
 ghost use Rattle.bf_forest.specs.Starts.{starts};
 
-use crate::opening::first_rank;
 use bf_block::Setup;
 use bf_buddy::Members;
 
@@ -14,7 +13,7 @@ fn has_root(setup: &Setup, rank: u32) -> bool
     ensures { result ≡ starts (case_of setup.now) rank }
 {
     for root in 0..setup.root_count() {
-        if first_rank(setup, root) == rank {
+        if setup.root_rank(root) == rank {
             return true;
         }
     }
