@@ -18,7 +18,7 @@ impl Setup {
     ghost use Rattle.std.specs.Prelude.{◌≡◌, ◌+◌, ◌*◌, ◌%◌, ◌^◌, ◌<◌, ◌≤◌, IfOk, All, map, ℕ};
     ghost use Rattle.std.specs.List.Sorted.{IsStrictlyIncreasing};
     ghost use Rattle.bf_id.specs.Shape.{IsShape, root_count};
-    ghost use Rattle.bf_case.specs.Case.{IsDeath};
+    ghost use Rattle.bf_case.specs.Case.{IsDeath, first_rank_of};
     ghost use Rattle.bf_block.specs.Runs.{CanRun};
     ghost use Rattle.bf_block.specs.Setup.{case_of};
 
@@ -61,6 +61,15 @@ impl Setup {
         ensures few { result ≤ 4096 }
     {
         self.case().root_count()
+    }
+
+    /// The rank at which a root begins.
+    pub fn root_rank(&self, root: u32) -> u32
+        requires { root < root_count (case_of self.now).roots }
+        ensures value { result ≡ first_rank_of (case_of self.now) root }
+        ensures below { result < (case_of self.now).ranks }
+    {
+        self.case().root_rank(root)
     }
 
     /// Cells along the edge of a block: an even number.

@@ -1,7 +1,7 @@
 -- The blocks and locals of the opening, as they are made.
 use Rattle.std.proofs.Common.{◌≡◌, ◌≢◌, ℕ, ◌+◌, ◌<◌, Bool, true, false, cond, List, [], ◌∷◌, ◌++◌, length, map, get_or, refl, sym, ap, ◌∙◌, arith}
 use Rattle.std.specs.Prelude.{IsTrue, filter, ◌==◌}
-use Rattle.std.specs.List.{range_with_len}
+use Rattle.std.specs.List.{range_with_len, zip}
 use Rattle.std.proofs.lemmas.Bool.Decides.{nat_tests}
 use Rattle.std.proofs.lemmas.List.{map-append, append-nil}
 use Rattle.std.proofs.lemmas.List.FromFn.{length-map-range_with_len, get_or-map-range_with_len, map-range_with_len_more, filter_of_map_range_with_len_more}
@@ -10,7 +10,8 @@ use Rattle.bf_case.specs.declared.case.Case.{Case}
 use Rattle.bf_case.specs.Case.{first_rank_of}
 use Rattle.bf_block.specs.Block.{BlockValue, initial_block}
 use Rattle.bf_parts.specs.Seats.{range_has, range_within}
-use Rattle.bf_forest.specs.Meanings.{first_blocks}
+use Rattle.bf_forest.specs.declared.local.ForestLocal.{ForestLocal}
+use Rattle.bf_forest.specs.Meanings.{first_blocks, opened, unfilled}
 
 -- the roots below one that begin at a rank
 abbrev pub roots_at : Case → (rank root : ℕ) → List BlockValue
@@ -62,3 +63,24 @@ first_at c firsts rank d is below = (
   omega (arith, ap length is, length-map-range_with_len (first_blocks c) 0 c.ranks),
   ap (λ (l : List (List BlockValue)). get_or l rank d) is ∙ get_or-map-range_with_len (first_blocks c) 0 c.ranks rank rank d below (omega arith),
 )
+
+-- a local with the blocks beside it
+abbrev pub with_blocks : ForestLocal × List BlockValue → ForestLocal
+with_blocks p = record p.0 { blocks = p.1 }
+
+-- the locals without blocks, each with its blocks, are the locals of the opening
+filled_by : (c : Case) (ranks : List ℕ) → map with_blocks (zip (map (unfilled c) ranks) (map (first_blocks c) ranks)) ≡ map (opened c) ranks
+unfolding opened
+filled_by c [] = refl
+filled_by c (rank ∷ ranks) = ap (λ l. opened c rank ∷ l) (filled_by c ranks)
+
+same_pairs : {A B : Type 0} (pairs : List (A × B)) → map (λ p. (p.0, p.1)) pairs ≡ pairs
+same_pairs [] = refl
+same_pairs (p ∷ pairs) = ap (λ l. p ∷ l) (same_pairs pairs)
+
+pub all_filled : (c : Case) (bare_locals : List ForestLocal) (firsts : List (List BlockValue)) (pairs : List (ForestLocal × List BlockValue))
+    → bare_locals ≡ map (unfilled c) (range_with_len 0 c.ranks) → firsts ≡ map (first_blocks c) (range_with_len 0 c.ranks)
+    → map (λ p. (p.0, p.1)) pairs ≡ zip bare_locals firsts → map with_blocks pairs ≡ map (opened c) (range_with_len 0 c.ranks)
+all_filled c bare_locals firsts pairs are begin walked =
+    ap (map with_blocks) (sym (same_pairs pairs) ∙ walked ∙ ap (λ l. zip l firsts) are ∙ ap (zip (map (unfilled c) (range_with_len 0 c.ranks))) begin)
+    ∙ filled_by c (range_with_len 0 c.ranks)

@@ -1,14 +1,20 @@
 -- Places of roots, as they are filled in.
 use Rattle.std.proofs.Common.{◌≡◌, ◌≢◌, ℕ, ◌+◌, ◌<◌, List, length, get_or, set, replicate, refl, sym, ap, subst, ◌∙◌, ◌⊎◌, arith, inl, inr, length-set, get_or-set_same, get_or-set_other}
 use Rattle.std.proofs.lemmas.Bool.{cases_order}
-use Rattle.std.specs.Prelude.{All}
+use Rattle.std.specs.Prelude.{All, slice_index}
 use Rattle.std.proofs.lemmas.List.{length-replicate, get_or-replicate, length-map, get_or-map}
 use Rattle.bf_id.specs.Id.{BlockId}
 use Rattle.bf_block.specs.Block.{BlockValue}
 use Rattle.bf_forest.specs.Places.{ArePlaces, roots_in}
 
+-- places for the roots below a count, of which the first so many of the list have theirs
+pub record ArePlacesOf (count : ℕ) (roots : List ℕ) (seen : ℕ) (places : List ℕ) : Type 0 where
+  pub full : length places ≡ count
+  pub right : (k : ℕ) → k < count → slice_index places k < length roots → slice_index roots (slice_index places k) ≡ k
+  pub found : (j : ℕ) → j < seen → slice_index places (slice_index roots j) < length roots
+
 -- at first no root has a place
-pub places_none : (count n : ℕ) (roots : List ℕ) → n ≡ length roots → ArePlaces count roots 0 (replicate count n)
+pub places_none : (count n : ℕ) (roots : List ℕ) → n ≡ length roots → ArePlacesOf count roots 0 (replicate count n)
 places_none count n roots past = record {
   full = length-replicate count n;
   right = λ k below within. absurd (omega (arith, within, get_or-replicate count k n 0 below));
@@ -16,8 +22,8 @@ places_none count n roots past = record {
 }
 
 -- one more
-pub places_more : (count : ℕ) (roots : List ℕ) (i root : ℕ) (places : List ℕ) → ArePlaces count roots i places → i < length roots
-    → root ≡ get_or roots i 0 → root < count → ArePlaces count roots (i + 1) (set places root i)
+pub places_more : (count : ℕ) (roots : List ℕ) (i root : ℕ) (places : List ℕ) → ArePlacesOf count roots i places → i < length roots
+    → root ≡ get_or roots i 0 → root < count → ArePlacesOf count roots (i + 1) (set places root i)
 places_more count roots i root places are inside is below =
     let here : get_or (set places root i) root 0 ≡ i = (let lt : root < length places = omega (arith, are.full) in rw get_or-set_same refl) in
     let there : (k : ℕ) → k ≢ root → get_or (set places root i) k 0 ≡ get_or places k 0 = λ k other. get_or-set_other places root k i 0 other in
@@ -40,8 +46,20 @@ places_more count roots i root places are inside is below =
       ];
     }
 
+pub length-roots_in : (blocks : List BlockValue) → length (roots_in blocks) ≡ length blocks
+length-roots_in blocks = length-map blocks (λ (v : BlockValue). v.id.root)
+
+-- in the end all have places
+pub places_all : (count seen : ℕ) (blocks : List BlockValue) (places : List ℕ) → ArePlacesOf count (roots_in blocks) seen places → seen ≡ length blocks
+    → ArePlaces count (roots_in blocks) places
+places_all count seen blocks places are end = record {
+  full = are.full;
+  right = are.right;
+  found = λ j inside. are.found j (omega (arith, inside, end, length-roots_in blocks));
+}
+
 -- a root of which a block is among them
-pub place_of_root : (count : ℕ) (roots : List ℕ) (places : List ℕ) (k j : ℕ) → ArePlaces count roots (length roots) places → k < count
+pub place_of_root : (count : ℕ) (roots : List ℕ) (places : List ℕ) (k j : ℕ) → ArePlaces count roots places → k < count
     → j < length roots → get_or roots j 0 ≡ k → (get_or places k 0 < length roots) × (get_or roots (get_or places k 0) 0 ≡ k)
 place_of_root count roots places k j are below inside is =
     let found : get_or places k 0 < length roots = subst (λ n. get_or places n 0 < length roots) is (are.found j inside) in
@@ -52,9 +70,6 @@ pub root_is : (blocks : List BlockValue) (i root : ℕ) (b d : BlockValue) (id :
     → root ≡ get_or (roots_in blocks) i 0
 root_is blocks i root b d id inside is its of_id =
     of_id ∙ ap (λ (n : BlockId). n.root) its ∙ ap (λ (v : BlockValue). v.id.root) is ∙ sym (get_or-map (λ (v : BlockValue). v.id.root) blocks i d 0 inside)
-
-pub length-roots_in : (blocks : List BlockValue) → length (roots_in blocks) ≡ length blocks
-length-roots_in blocks = length-map blocks (λ (v : BlockValue). v.id.root)
 
 pub root_below : (blocks : List BlockValue) (i root count : ℕ) → All (λ n. n < count) (roots_in blocks) → i < length blocks → root ≡ get_or (roots_in blocks) i 0 → root < count
 root_below blocks i root count below inside is =

@@ -118,7 +118,7 @@ module _ (c : Case) (time : ℕ) (local : ForestLocal) (runs : CanRun c) (ready 
       (at.0, at.1, at.2 0)
 
   knows : (known : Known) (places : List ℕ) → known.blocks.items ≡ all_blocks → known.places.items ≡ places
-      → ArePlaces (root_count c.roots) (roots_in all_blocks) (length (roots_in all_blocks)) places → KnowsModel c time known
+      → ArePlaces (root_count c.roots) (roots_in all_blocks) places → KnowsModel c time known
   knows known places same is are = record { each = each }
     where
       each : (k : ℕ) → k < root_count c.roots → is_known known k × (cells_at (model c time) (root_id k) ≡ Some (known_grid known k))
@@ -139,16 +139,15 @@ module _ (c : Case) (time : ℕ) (local : ForestLocal) (runs : CanRun c) (ready 
           ((full, placed), ap (cells_at (model c time)) (sym (leaf.root ∙ ap root_id root)) ∙ leaf.cells ∙ ap Some (sym grid))
 
   pub can_advance : (known : Known) (blocks : List BlockValue) (roots count : ℕ) → blocks ≡ all_blocks → known.blocks.items ≡ blocks → roots ≡ root_count c.roots
-      → ArePlaces roots (roots_in blocks) (length blocks) known.places.items → count ≡ length local.blocks
+      → ArePlaces roots (roots_in blocks) known.places.items → count ≡ length local.blocks
       → CanAdvance c time known count
   can_advance known blocks roots count made same full are counted =
       let whole : known.blocks.items ≡ all_blocks = same ∙ made in
       let first : take (length local.blocks) all_blocks ≡ map kept_block local.blocks =
       ap (λ n. take n all_blocks) (sym (length-map local.blocks kept_block)) ∙ take-append_seam (map kept_block local.blocks) local.heard in
-      let their : ArePlaces (root_count c.roots) (roots_in all_blocks) (length (roots_in all_blocks)) known.places.items =
-      subst (λ n. ArePlaces n (roots_in all_blocks) (length (roots_in all_blocks)) known.places.items) full
-      (subst (λ n. ArePlaces roots (roots_in all_blocks) n known.places.items) (sym (length-roots_in all_blocks))
-      (subst (λ (l : List BlockValue). ArePlaces roots (roots_in l) (length l) known.places.items) made are)) in
+      let their : ArePlaces (root_count c.roots) (roots_in all_blocks) known.places.items =
+      subst (λ n. ArePlaces n (roots_in all_blocks) known.places.items) full
+      (subst (λ (l : List BlockValue). ArePlaces roots (roots_in l) known.places.items) made are) in
       record {
         model = knows known known.places.items whole refl their;
         within = omega (arith, ap length whole, length-append (map kept_block local.blocks) local.heard, length-map local.blocks kept_block, counted);

@@ -19,13 +19,14 @@ use Rattle.bf_block.specs.declared.setup.Setup.{Setup}
 use Rattle.bf_block.specs.Setup.{case_of, every_setup_runs}
 use Rattle.bf_block.specs.Block.{BlockValue, initial_block}
 use Rattle.bf_parts.specs.KeyLaws.{keys_made}
+use Rattle.bf_parts.specs.Openings.{other_items}
 use Rattle.bf_parts.specs.Programs.{HasParts, HasOpening}
 use Rattle.bf_parts.specs.ProgramLaws.{opens_shared, keeps_shared, restores_shared}
 use Rattle.bf_parts.specs.Seats.{all_members, all_passed, range_within}
 use Rattle.bf_parts.specs.Sides.{bare, regained}
 use Rattle.bf_forest.specs.declared.local.ForestLocal.{ForestLocal}
 use Rattle.bf_forest.specs.Goods.{IsBlockAt, HasModels, IsGood}
-use Rattle.bf_forest.specs.Meanings.{forest, forest_look, first_blocks, other_blocks, opened, restored}
+use Rattle.bf_forest.specs.Meanings.{forest, forest_look, first_blocks, opened, restored}
 use Rattle.bf_forest.specs.StageLaws.{time_first, time_end}
 use Rattle.bf_forest.specs.Stages.{rounds_of, time_at}
 
@@ -88,7 +89,7 @@ opened_has c epoch rank valid start = record {
   blocks = subst (λ time. All (IsBlockAt c time) (first_blocks c rank)) (sym (time_first epoch ∙ start)) (first_are c rank valid);
   unheard = refl;
   own = subst (λ time. All (IsBlockAt c time) (first_blocks c rank)) (sym start) (first_are c rank valid);
-  other = subst (λ time. All (IsBlockAt c time) (other_blocks c rank (predecessor_of (range_with_len 0 c.ranks) rank c.shift))) (sym start)
+  other = subst (λ time. All (IsBlockAt c time) (other_items (first_blocks c) rank (predecessor_of (range_with_len 0 c.ranks) rank c.shift))) (sym start)
       (other_are c rank (predecessor_of (range_with_len 0 c.ranks) rank c.shift) (predecessor_of (range_with_len 0 c.ranks) rank c.shift == rank) valid);
   new_own = λ last. absurd (omega arith);
   new_other = λ last. absurd (omega arith);

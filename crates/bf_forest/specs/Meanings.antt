@@ -3,7 +3,6 @@ use Rattle.std.specs.Prelude.{ℕ, ◌*◌, ◌%◌, ◌^◌, ◌==◌, nat_lt, 
 use Rattle.std.specs.List.{range_with_len, sum_by}
 use Rattle.std.specs.Map.{lookup}
 use Rattle.bf_buddy.specs.Members.{without}
-use Rattle.bf_buddy.specs.Buddy.{predecessor_of}
 use Rattle.bf_program.specs.declared.epoch.Epoch.{Epoch}
 use Rattle.bf_program.specs.declared.measure.Measure.{Measure}
 use Rattle.bf_program.specs.Meanings.{Meanings, Regions}
@@ -18,6 +17,7 @@ use Rattle.bf_block.specs.Setup.{case_of}
 use Rattle.bf_block.specs.Block.{BlockValue, initial_block}
 use Rattle.bf_parts.specs.declared.side.Side.{Side}
 use Rattle.bf_parts.specs.Looks.{Look, stored_of}
+use Rattle.bf_parts.specs.Openings.{opening_side}
 use Rattle.bf_parts.specs.Shares.{is_filled}
 use Rattle.bf_parts.specs.Sides.{bare, gives, source_of, has_items, regained, saved_of, is_given}
 use Rattle.bf_forest.specs.declared.local.ForestLocal.{ForestLocal}
@@ -80,25 +80,19 @@ restored side rank live = record {
 unfoldable pub first_blocks : Case → (rank : ℕ) → List BlockValue
 first_blocks c rank = map (initial_block c) (filter (λ root. first_rank_of c root == rank) (range_with_len 0 (root_count c.roots)))
 
--- the predecessor's blocks, where that is another rank
-abbrev pub other_blocks : Case → (rank predecessor : ℕ) → List BlockValue
-other_blocks c rank predecessor = if predecessor == rank then [] else first_blocks c predecessor
-
 -- a rank's local at the opening
 unfoldable pub opened : Case → (rank : ℕ) → ForestLocal
-opened c rank = let homes = range_with_len 0 c.ranks in record {
+opened c rank = record {
   rank = rank;
   blocks = first_blocks c rank;
   heard = [];
-  active = record {
-    time = 0;
-    homes = homes;
-    source = predecessor_of homes rank c.shift;
-    own = first_blocks c rank;
-    other = other_blocks c rank (predecessor_of homes rank c.shift);
-  };
+  active = opening_side (first_blocks c) (range_with_len 0 c.ranks) c.shift rank;
   spare = bare;
 }
+
+-- that local without the rank's own blocks
+abbrev pub unfilled : Case → (rank : ℕ) → ForestLocal
+unfilled c rank = record (opened c rank) { blocks = [] }
 
 -- the whole blocks of a message
 abbrev pub blocks_in : ForestMessage → List BlockValue

@@ -17,7 +17,7 @@ pub struct Known {
 /// For each root below a count the place of a block of it, or one past the end of the blocks.
 fn places_of(alloc: Global, count: usize, blocks: &[Block]) -> Result<Vec<usize>, Memory>
     requires { All (λ root. root < count) (roots_in blocks.now) }
-    ensures { IfOk result (λ places. ArePlaces count (roots_in blocks.now) (length blocks.now) places.items) }
+    ensures { IfOk result (λ places. ArePlaces count (roots_in blocks.now) places.items) }
 {
     let mut places = vec![in alloc; blocks.len(); count]?;
     for (place, block) in blocks.iter().enumerate() {
@@ -34,7 +34,7 @@ impl Known {
     pub fn of(alloc: Global, count: usize, blocks: Vec<Block>) -> Result<Known, Memory>
         requires { All (λ root. root < count) (roots_in blocks.items) }
         ensures blocks { IfOk result (λ known. known.blocks.items ≡ blocks.items) }
-        ensures places { IfOk result (λ known. ArePlaces count (roots_in blocks.items) (length blocks.items) known.places.items) }
+        ensures places { IfOk result (λ known. ArePlaces count (roots_in blocks.items) known.places.items) }
     {
         let places = places_of(alloc, count, blocks.as_slice())?;
         Ok(Known { blocks, places })

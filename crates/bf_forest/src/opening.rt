@@ -1,11 +1,10 @@
 //! The ranks' locals at the opening.
 ghost use Rattle.std.specs.Prelude.{◌≡◌, ℕ, ◌+◌, ◌<◌, List, map, IfOk};
 ghost use Rattle.std.specs.List.{range_with_len};
-ghost use Rattle.bf_id.specs.Shape.{root_count};
-ghost use Rattle.bf_case.specs.Case.{first_rank_of};
 ghost use Rattle.bf_block.specs.Block.{BlockValue};
 ghost use Rattle.bf_block.specs.Setup.{case_of};
-ghost use Rattle.bf_forest.specs.Meanings.{first_blocks, other_blocks, opened, forest};
+ghost use Rattle.bf_parts.specs.Openings.{other_items};
+ghost use Rattle.bf_forest.specs.Meanings.{first_blocks, unfilled, forest};
 
 use crate::ForestLocal;
 use crate::blocks::copies;
@@ -14,14 +13,6 @@ use bf_buddy::Members;
 use bf_items::Items;
 use bf_parts::Side;
 use std::alloc::Global;
-
-/// The rank at which a root begins.
-pub fn first_rank(setup: &Setup, root: u32) -> u32
-    requires { root < root_count (case_of setup.now).roots }
-    ensures { result ≡ first_rank_of (case_of setup.now) root }
-{
-    root * setup.ranks() / setup.root_count()
-}
 
 // The roots that begin at a rank, filled.
 fn first_blocks(
@@ -35,7 +26,7 @@ fn first_blocks(
 {
     let mut blocks = Vec::new(alloc);
     for root in 0..setup.root_count() {
-        if first_rank(setup, root) == rank {
+        if setup.root_rank(root) == rank {
             blocks.push(Block::initial(alloc, opening, root)?)?;
         }
     }
@@ -82,7 +73,7 @@ fn copied_other(
 ) -> Result<Items<Block>, Memory>
     requires firsts { firsts.now ≡ map (first_blocks (case_of setup.now)) (range_with_len 0 (case_of setup.now).ranks) }
     requires source { source < (case_of setup.now).ranks }
-    ensures { IfOk result (λ blocks. blocks ≡ other_blocks (case_of setup.now) rank source) }
+    ensures { IfOk result (λ blocks. blocks ≡ other_items (first_blocks (case_of setup.now)) rank source) }
 {
     if source == rank {
         Ok(Items::new(alloc))
@@ -91,9 +82,9 @@ fn copied_other(
     }
 }
 
-// A rank's local at the opening, of the roots that begin at each rank.
+// A rank's local at the opening, still without its own blocks.
 #[tactic(auto, using(crate::proofs::OpeningSteps::opening_steps), unfolding(crate::specs::Meanings::opened))]
-fn opened(
+fn unfilled(
     alloc: Global,
     setup: &Setup,
     firsts: &[Items<Block>],
@@ -101,7 +92,7 @@ fn opened(
 ) -> Result<ForestLocal, Memory>
     requires firsts { firsts.now ≡ map (first_blocks (case_of setup.now)) (range_with_len 0 (case_of setup.now).ranks) }
     requires rank { rank < (case_of setup.now).ranks }
-    ensures { IfOk result (λ local. local ≡ opened (case_of setup.now) rank) }
+    ensures { IfOk result (λ local. local ≡ unfilled (case_of setup.now) rank) }
 {
     let homes = Members::all(setup.ranks());
     let source = homes.predecessor(rank, setup.shift());
@@ -114,11 +105,27 @@ fn opened(
     };
     Ok(ForestLocal {
         rank,
-        blocks: copied_first(alloc, setup, firsts, rank)?,
+        blocks: Items::new(alloc),
         heard: Items::new(alloc),
         active,
         spare: Side::bare(alloc),
     })
+}
+
+// The ranks' locals without their own blocks.
+fn all_unfilled(
+    alloc: Global,
+    setup: &Setup,
+    firsts: &[Items<Block>],
+) -> Result<Vec<ForestLocal>, Memory>
+    requires { firsts.now ≡ map (first_blocks (case_of setup.now)) (range_with_len 0 (case_of setup.now).ranks) }
+    ensures { IfOk result (λ locals. locals.items ≡ map (unfilled (case_of setup.now)) (range_with_len 0 (case_of setup.now).ranks)) }
+{
+    let mut locals = Vec::new(alloc);
+    for rank in 0..setup.ranks() {
+        locals.push(unfilled(alloc, setup, firsts, rank)?)?;
+    }
+    Ok(locals)
 }
 
 /// The ranks' locals at the opening, which is spent. The opening is the agreed snapshot of time 0, at each home and at
@@ -128,9 +135,11 @@ pub fn load(alloc: Global, opening: Opening, setup: &Setup) -> Result<Vec<Forest
     ensures { IfOk result (λ locals. locals.items ≡ forest.opening setup.now) }
 {
     let firsts = all_first_blocks(alloc, &opening, setup)?;
-    let mut locals = Vec::new(alloc);
-    for rank in 0..setup.ranks() {
-        locals.push(opened(alloc, setup, firsts.as_slice(), rank)?)?;
+    let unfilled = all_unfilled(alloc, setup, firsts.as_slice())?;
+    let mut locals = Vec::with_capacity(alloc, unfilled.len())?;
+    for (mut local, blocks) in unfilled.into_iter().zip(firsts) {
+        local.blocks = blocks;
+        locals.push(local)?;
     }
     Ok(locals)
 }

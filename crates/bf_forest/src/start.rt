@@ -4,7 +4,6 @@ ghost use Rattle.bf_block.specs.Setup.{case_of};
 ghost use Rattle.bf_forest.specs.Meanings.{forest};
 ghost use Rattle.bf_forest.specs.Starts.{starts};
 
-use crate::opening::first_rank;
 use bf_block::Setup;
 use bf_buddy::Members;
 
@@ -14,15 +13,15 @@ fn has_root(setup: &Setup, rank: u32) -> bool
     ensures { result ≡ starts (case_of setup.now) rank }
 {
     for root in 0..setup.root_count() {
-        if first_rank(setup, root) == rank {
+        if setup.root_rank(root) == rank {
             return true;
         }
     }
     false
 }
 
-#[tactic(auto, using(crate::proofs::StartSteps::start_steps))]
 /// The ranks at which a root begins: those whose part of the opening's snapshot has a block.
+#[tactic(auto, using(crate::proofs::StartSteps::start_steps))]
 pub fn laid(setup: &Setup) -> Members
     ensures { result ≡ forest.laid setup.now }
 {

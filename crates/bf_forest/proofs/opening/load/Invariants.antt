@@ -1,8 +1,6 @@
 use Rattle.std.proofs.Common.{◌≡◌, map}
-use Rattle.std.specs.List.{range_with_len}
-use Rattle.bf_block.specs.Setup.{case_of}
-use Rattle.bf_forest.specs.Meanings.{opened}
+use Rattle.bf_forest.proofs.OpeningSteps.{with_blocks}
 use Rattle.bf_forest.proofs.opening.load.Given as goal
 
-abbrev pub invariant-loop-rank : goal.invariant-loop-rank
-invariant-loop-rank l = l.locals.items ≡ map (opened (case_of l.setup)) (range_with_len 0 l.rank)
+abbrev pub invariant-loop-local : goal.invariant-loop-local
+invariant-loop-local l = l.locals.items ≡ map with_blocks l.yielded
