@@ -1,0 +1,7 @@
+-- What an input spells: a case, or the first line at fault.
+pub mod Codes
+pub mod Lines
+pub mod Forms
+pub mod Entries
+pub mod Faults
+pub mod Reading

@@ -1,0 +1,13 @@
+//! The text of a case, as people write it: read exactly, and written in its one canonical form.
+//!
+//! [`read_case`] gives the case that the bytes spell, or the first line that is at fault with the
+//! cause that comes first there; both are what one definition says of the bytes. [`write_case`]
+//! writes the canonical text, which is read back as the same case.
+#![tactic(auto)]
+
+mod code;
+mod form;
+mod head;
+
+pub use bf_edge::Memory;
+pub use code::{CaseFault, Code, Refusal};
