@@ -1,5 +1,5 @@
 -- The lines of an input, and the words of a line.
-use Rattle.std.specs.Prelude.{ℕ, ◌==◌, nat_le, Bool, not, ◌&&◌, ◌||◌, length, List, [], ◌∷◌}
+use Rattle.std.specs.Prelude.{◌≡◌, false, ℕ, ◌==◌, nat_le, Bool, not, ◌&&◌, ◌||◌, length, List, [], ◌∷◌}
 use Rattle.std.specs.List.{slice_split, filter, before_first}
 use Rattle.std.specs.Str.Lines.{strip_carriage_return}
 
@@ -40,3 +40,8 @@ is_some_word word = not (length word == 0)
 -- the words, which blanks and tabs part
 abbrev pub words_of : List ℕ → List (List ℕ)
 words_of content = filter is_some_word (slice_split is_blank content)
+
+-- no blank stands in front
+abbrev pub BeginsWord : List ℕ → Type 0
+BeginsWord [] = Unit {0}
+BeginsWord (b ∷ bytes) = is_blank b ≡ false

@@ -8,6 +8,7 @@
 mod code;
 mod form;
 mod head;
+mod lines;
 
 pub use bf_edge::Memory;
 pub use code::{CaseFault, Code, Refusal};
