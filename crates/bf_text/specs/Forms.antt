@@ -1,7 +1,8 @@
 -- What the first word of a line asks for: which words follow, and where the line may stand.
-use Rattle.std.specs.Prelude.{ℕ, ◌==◌, ◌%◌, nat_le, Bool, true, false, ◌&&◌, if◌then◌else◌, List, [], ◌∷◌, codes, length, slice_index}
-use Rattle.std.specs.List.{list_all}
+use Rattle.std.specs.Prelude.{ℕ, ◌==◌, ◌%◌, nat_le, Bool, false, ◌&&◌, if◌then◌else◌, List, [], ◌∷◌, codes, length, slice_index}
+use Rattle.std.specs.List.{list_all, zip}
 use Rattle.std.specs.Str.{bytes_eq}
+use Rattle.bf_text.specs.declared.form.Range.{Range}
 use Rattle.bf_text.specs.declared.form.Form.{Form}
 use Rattle.bf_text.specs.declared.form.Form.TheVariants as form
 
@@ -60,11 +61,6 @@ headings =
     form.Forest ∷ form.Roots ∷ form.Side ∷ form.Levels ∷ form.Ranks ∷ form.Steps ∷ form.Snapshot ∷ form.Regrid
     ∷ form.Refine ∷ form.Coarsen ∷ form.Flow ∷ form.Turns ∷ form.Shift ∷ []
 
--- the least and the greatest number that may stand at a place
-pub record Range : Type 0 where
-  pub least : ℕ
-  pub greatest : ℕ
-
 abbrev pub up_to : ℕ → Range
 up_to most = record { least = 0; greatest = most }
 
@@ -107,9 +103,7 @@ is_within range n = nat_le range.least n && nat_le n range.greatest
 
 -- each number is in the range of its place
 abbrev pub are_within : List Range → List ℕ → Bool
-are_within [] numbers = true
-are_within (range ∷ ranges) [] = true
-are_within (range ∷ ranges) (n ∷ numbers) = is_within range n && are_within ranges numbers
+are_within ranges numbers = list_all (λ (p : Range × ℕ). is_within p.0 p.1) (zip ranges numbers)
 
 -- the numbers are in the ranges of the form; a side is even too
 abbrev pub fits : Form → List ℕ → Bool

@@ -9,6 +9,7 @@ mod code;
 mod form;
 mod head;
 mod lines;
+mod numbers;
 
 pub use bf_edge::Memory;
 pub use code::{CaseFault, Code, Refusal};

@@ -1,5 +1,5 @@
 use Rattle.std.proofs.Common.{sym}
-use Rattle.bf_text.proofs.LineLemmas.{some_bytes, comment_found, comment_none}
+use Rattle.bf_text.proofs.LineLemmas.{comment_found, comment_none}
 use Rattle.bf_text.proofs.lines.without_comment.Goals as goal
 
 pub returns-in-Some : goal.returns-in-Some
