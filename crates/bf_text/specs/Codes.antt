@@ -27,6 +27,9 @@ number_of code.NoEnd = 16
 abbrev pub word_codes : List Code
 word_codes = code.NotText ∷ code.BadHeader ∷ code.AfterEnd ∷ code.Missing ∷ code.Repeated ∷ code.BadLine ∷ code.BadNumber ∷ []
 
+-- those that are told of the numbers by the case so far
+abbrev pub case_codes : List Code
+case_codes = code.TooManyCells ∷ code.Crossed ∷ code.FillOutside ∷ code.DieRank ∷ code.DieTwice ∷ code.OrderRank ∷ []
+
 abbrev pub number_codes : List Code
-number_codes =
-    code.OutOfRange ∷ code.TooManyCells ∷ code.Crossed ∷ code.FillOutside ∷ code.DieRank ∷ code.DieTwice ∷ code.OrderRank ∷ []
+number_codes = code.OutOfRange ∷ case_codes

@@ -1,5 +1,5 @@
 -- What is wrong with a line, after what came before it.
-use Rattle.std.specs.Prelude.{ℕ, ◌*◌, ◌^◌, nat_le, nat_lt, Bool, false, not, ◌&&◌, ◌||◌, List, [], ◌∷◌, ◌++◌, codes, length, slice_index, Option, is_some}
+use Rattle.std.specs.Prelude.{ℕ, ◌*◌, ◌^◌, nat_le, nat_lt, Bool, false, not, ◌&&◌, ◌||◌, List, [], ◌∷◌, codes, length, slice_index, Option, Some, None, is_some}
 use Rattle.std.specs.List.{list_all, list_any, find}
 use Rattle.std.specs.Str.{bytes_eq}
 use Rattle.bf_id.specs.Shape.{root_count}
@@ -54,11 +54,15 @@ is_crossed head f numbers = false
 abbrev pub is_stretch : ℕ → ℕ → ℕ → Bool
 is_stretch low high cells = nat_le low high && nat_lt high cells
 
-abbrev pub is_outside : Head → Form → List ℕ → Bool
-is_outside head form.Fill numbers =
-    not (is_stretch (slice_index numbers 0) (slice_index numbers 3) (head.roots.nx * head.side)
+-- the box of a fill lies in the domain
+abbrev pub holds_fill : Head → List ℕ → Bool
+holds_fill head numbers =
+    is_stretch (slice_index numbers 0) (slice_index numbers 3) (head.roots.nx * head.side)
     && (is_stretch (slice_index numbers 1) (slice_index numbers 4) (head.roots.ny * head.side)
-    && is_stretch (slice_index numbers 2) (slice_index numbers 5) (head.roots.nz * head.side)))
+    && is_stretch (slice_index numbers 2) (slice_index numbers 5) (head.roots.nz * head.side))
+
+abbrev pub is_outside : Head → Form → List ℕ → Bool
+is_outside head form.Fill numbers = not (holds_fill head numbers)
 is_outside head f numbers = false
 
 abbrev pub kills_no_rank : Head → Form → List ℕ → Bool
@@ -75,25 +79,34 @@ orders_no_rank head f numbers = false
 
 -- ---- the causes
 
--- the line has this cause
-abbrev pub has_cause : Known → Entry → Code → Bool
-has_cause known e code.NotText = not e.is_text
-has_cause known e code.BadHeader = not (known.came form.Forest || is_header e.form e.arguments)
-has_cause known e code.AfterEnd = known.ended
-has_cause known e code.Missing = is_missing known.came e.form
-has_cause known e code.Repeated = known.came e.form
-has_cause known e code.BadLine = not (takes e.form (length e.arguments))
-has_cause known e code.BadNumber = not (list_all is_number e.arguments)
-has_cause known e code.OutOfRange = not (fits e.form (numbers_of e))
-has_cause known e code.TooManyCells = has_too_many_cells known.head e.form (numbers_of e)
-has_cause known e code.Crossed = is_crossed known.head e.form (numbers_of e)
-has_cause known e code.FillOutside = is_outside known.head e.form (numbers_of e)
-has_cause known e code.DieRank = kills_no_rank known.head e.form (numbers_of e)
-has_cause known e code.DieTwice = kills_again known.dies e.form (numbers_of e)
-has_cause known e code.OrderRank = orders_no_rank known.head e.form (numbers_of e)
-has_cause known e code.TooLong = false
-has_cause known e code.NoEnd = false
+-- the line has this cause, whatever its numbers are
+abbrev pub has_word_cause : Known → Entry → Code → Bool
+has_word_cause known e code.NotText = not e.is_text
+has_word_cause known e code.BadHeader = not (known.came form.Forest || is_header e.form e.arguments)
+has_word_cause known e code.AfterEnd = known.ended
+has_word_cause known e code.Missing = is_missing known.came e.form
+has_word_cause known e code.Repeated = known.came e.form
+has_word_cause known e code.BadLine = not (takes e.form (length e.arguments))
+has_word_cause known e code.BadNumber = not (list_all is_number e.arguments)
+has_word_cause known e cause = false
 
--- the first cause that the line has
+-- a line of this form has this cause for its numbers
+abbrev pub has_number_cause : Known → Form → List ℕ → Code → Bool
+has_number_cause known f numbers code.OutOfRange = not (fits f numbers)
+has_number_cause known f numbers code.TooManyCells = has_too_many_cells known.head f numbers
+has_number_cause known f numbers code.Crossed = is_crossed known.head f numbers
+has_number_cause known f numbers code.FillOutside = is_outside known.head f numbers
+has_number_cause known f numbers code.DieRank = kills_no_rank known.head f numbers
+has_number_cause known f numbers code.DieTwice = kills_again known.dies f numbers
+has_number_cause known f numbers code.OrderRank = orders_no_rank known.head f numbers
+has_number_cause known f numbers cause = false
+
+-- the first, where there is one
+abbrev pub either : Option Code → Option Code → Option Code
+either (Some cause) other = Some cause
+either None other = other
+
+-- the cause of a line that counts most
 abbrev pub cause_of : Known → Entry → Option Code
-cause_of known e = find (has_cause known e) (word_codes ++ number_codes)
+cause_of known e =
+    either (find (has_word_cause known e) word_codes) (find (has_number_cause known e.form (numbers_of e)) number_codes)

@@ -5,3 +5,5 @@ pub mod Forms
 pub mod Entries
 pub mod Faults
 pub mod Reading
+pub mod Heads
+pub mod Drafts

@@ -77,7 +77,7 @@ pub enum Form {
     Other,
 }
 
-fn is_word(word: &[u8], text: &[u8]) -> bool
+pub fn is_word(word: &[u8], text: &[u8]) -> bool
     ensures { result ≡ bytes_eq word.now text.now }
 {
     word == text
@@ -155,6 +155,13 @@ impl Form {
         ensures { result ≡ place_of self }
     {
         self as u32
+    }
+
+    /// Whether lines of this form stand in a case once, before the body.
+    pub fn is_heading(self) -> bool
+        ensures { result ≡ is_heading self }
+    {
+        self.place() <= 12
     }
 
     /// The ranges of the numbers that follow the word; an order has any number of ranks.

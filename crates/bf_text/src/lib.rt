@@ -10,6 +10,7 @@ mod form;
 mod head;
 mod lines;
 mod numbers;
+mod outline;
 
 pub use bf_edge::Memory;
 pub use code::{CaseFault, Code, Refusal};
