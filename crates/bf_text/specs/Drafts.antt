@@ -1,14 +1,23 @@
 -- What is kept of the lines that were read.
-use Rattle.std.specs.Prelude.{ℕ, ◌+◌, nat_lt, min, Bool, ◌&&◌, ◌||◌, if◌then◌else◌, List, slice_index, slice_index_or, slice_set, Option, Some, None, is_some}
-use Rattle.std.specs.List.{list_all}
+use Rattle.std.specs.Prelude.{◌≡◌, ℕ, ◌+◌, ◌≤◌, nat_lt, min, Bool, true, false, ◌&&◌, ◌||◌, if◌then◌else◌, List, [], ◌∷◌, ◌++◌, slice_index, slice_index_or, slice_set, Option, Some, None, is_some, replicate, Result, Ok, Err}
+use Rattle.std.specs.List.{list_all, filter_map, range_with_len}
+use Rattle.std.specs.Option.{option_map}
+use Rattle.bf_case.specs.declared.case.Case.{Case}
+use Rattle.bf_case.specs.declared.case.Fill.{Fill}
+use Rattle.bf_text.specs.declared.code.Code.TheVariants as code
+use Rattle.bf_text.specs.declared.code.CaseFault.{CaseFault}
+use Rattle.bf_text.specs.declared.code.CaseFault.TheVariants as fault
 use Rattle.bf_text.specs.declared.form.Form.{Form}
 use Rattle.bf_text.specs.declared.form.Form.TheVariants as form
 use Rattle.bf_text.specs.declared.head.Head.{Head}
 use Rattle.bf_text.specs.declared.outline.Outline.{Outline}
-use Rattle.bf_text.specs.Lines.{is_plain, words_of}
-use Rattle.bf_text.specs.Forms.{place_of, same_form, is_heading}
-use Rattle.bf_text.specs.Entries.{Entry}
-use Rattle.bf_text.specs.Faults.{Known}
+use Rattle.bf_text.specs.declared.draft.Draft.{Draft}
+use Rattle.bf_text.specs.Lines.{is_plain, content_of, words_of}
+use Rattle.bf_text.specs.Forms.{form_of, place_of, same_form, is_heading}
+use Rattle.bf_text.specs.Entries.{Entry, numbers_of, fill_of, case_with}
+use Rattle.bf_text.specs.Faults.{Known, cause_of}
+use Rattle.bf_text.specs.Heads.{IsSmall}
+use Rattle.bf_text.specs.Reading.{refusal}
 
 -- the headings whose places are below `next` have come
 abbrev pub came_below : ℕ → Form → Bool
@@ -48,11 +57,31 @@ deaths_with deaths f numbers = deaths
 abbrev pub next_after : ℕ → Form → ℕ
 next_after next f = if is_heading f then place_of f + 1 else next
 
+-- nothing has come
+abbrev pub blank_head : Head
+blank_head = record {
+  roots = record { nx = 0; ny = 0; nz = 0 };
+  side = 0;
+  levels = 0;
+  ranks = 0;
+  steps = 0;
+  snapshot = 0;
+  regrid = 0;
+  refine = 0;
+  coarsen = 0;
+  flow = 0;
+  turns = 0;
+  shift = 0;
+}
+
+abbrev pub blank_outline : Outline
+blank_outline = record { next = 0; ended = false; head = blank_head; deaths = replicate 16 None }
+
 -- the outline with one more line
 abbrev pub outline_with : Outline → Form → List ℕ → Outline
 outline_with o f numbers = record {
   next = next_after o.next f;
-  ended = o.ended || same_form form.End f;
+  ended = same_form form.End f || o.ended;
   head = head_with o.head f numbers;
   deaths = deaths_with o.deaths f numbers;
 }
@@ -61,3 +90,64 @@ outline_with o f numbers = record {
 abbrev pub due_place : Form → ℕ
 due_place form.Other = 0
 due_place f = min (place_of f) 13
+
+abbrev pub fills_in : Form → List ℕ → List Fill
+fills_in f numbers = if same_form form.Fill f then fill_of numbers ∷ [] else []
+
+abbrev pub order_in : Form → List ℕ → List ℕ
+order_in f numbers = if same_form form.Order f then numbers else []
+
+-- the deaths by rising rank
+abbrev pub deaths_in : List (Option ℕ) → List (ℕ × ℕ)
+deaths_in deaths =
+    filter_map (λ rank. option_map (λ events. (rank, events)) (slice_index_or deaths rank None)) (range_with_len 0 16)
+
+-- the outline is in its bounds
+pub record IsBounded (o : Outline) : Type 0 where
+  pub next : o.next ≤ 13
+  pub small : IsSmall o.head
+
+-- the draft with one more line of this form
+pub record AddsLine (old new : Draft) (f : Form) (numbers : List ℕ) : Type 0 where
+  pub outline : new.outline ≡ outline_with old.outline f numbers
+  pub fills : new.fills.items ≡ old.fills.items ++ fills_in f numbers
+  pub order : new.order.items ≡ old.order.items ++ order_in f numbers
+
+-- the entry has no fault, and the draft has taken it
+pub record TakesEntry (old new : Draft) (e : Entry) : Type 0 where
+  pub sound : cause_of (known_in old.outline) e ≡ None
+  pub adds : AddsLine old new e.form (numbers_of e)
+
+-- what went wrong is the entry's fault, or want of memory
+abbrev pub IsFaultOf : Known → Entry → CaseFault → Type 0
+IsFaultOf known e (fault.Refused r) = (cause_of known e ≡ Some r.code) × (r.line ≡ e.line)
+IsFaultOf known e fault.Memory = Unit {0}
+
+pub record IsSameDraft (old new : Draft) : Type 0 where
+  pub outline : new.outline ≡ old.outline
+  pub fills : new.fills.items ≡ old.fills.items
+  pub order : new.order.items ≡ old.order.items
+
+-- the draft has taken the words of a line, if it has any
+abbrev pub TakesWords : Draft → Draft → ℕ → Bool → List (List ℕ) → Type 0
+TakesWords old new line is_text [] = IsSameDraft old new
+TakesWords old new line is_text (word ∷ words) =
+    TakesEntry old new (record { line = line; is_text = is_text; form = form_of word; arguments = words })
+
+abbrev pub IsFaultOfWords : Known → ℕ → Bool → List (List ℕ) → CaseFault → Type 0
+IsFaultOfWords known line is_text [] f = f ≡ fault.Memory
+IsFaultOfWords known line is_text (word ∷ words) f =
+    IsFaultOf known (record { line = line; is_text = is_text; form = form_of word; arguments = words }) f
+
+abbrev pub TakesLine : Draft → Draft → ℕ → List ℕ → Type 0
+TakesLine old new number line = TakesWords old new number (list_all is_plain (content_of line)) (words_of (content_of line))
+
+abbrev pub IsFaultOfLine : Known → ℕ → List ℕ → CaseFault → Type 0
+IsFaultOfLine known number line f = IsFaultOfWords known number (list_all is_plain (content_of line)) (words_of (content_of line)) f
+
+-- what comes of a draft once all lines are read
+abbrev pub IsFinished : Draft → ℕ → Result Case CaseFault → Type 0
+IsFinished d last (Ok c) =
+    (d.outline.ended ≡ true) × (c ≡ case_with d.outline.head d.fills.items (deaths_in d.outline.deaths) d.order.items)
+IsFinished d last (Err (fault.Refused r)) = (d.outline.ended ≡ false) × (r ≡ refusal last code.NoEnd)
+IsFinished d last (Err fault.Memory) = Unit {0}

@@ -6,6 +6,7 @@
 #![tactic(auto)]
 
 mod code;
+mod draft;
 mod form;
 mod head;
 mod lines;

@@ -1,11 +1,12 @@
 //! What is kept of the lines that were read, apart from lists of any length.
-ghost use Rattle.std.specs.Prelude.{◌≡◌, ◌*◌, ◌^◌, ◌<◌, ◌≤◌, nat_lt, length, slice_index, Some, None, if◌then◌else◌, IsTrue};
+ghost use Rattle.std.specs.Prelude.{◌≡◌, ◌*◌, ◌^◌, ◌<◌, ◌≤◌, nat_lt, length, slice_index, IfNone, Some, None, if◌then◌else◌, IsTrue};
 ghost use Rattle.std.specs.List.{list_all, find};
 ghost use Rattle.bf_id.specs.Shape.{root_count};
 ghost use Rattle.bf_case.specs.Case.{cell_limit};
 ghost use Rattle.bf_text.specs.declared.form.Form.TheVariants as Form;
 ghost use Rattle.bf_text.specs.Lines.{words_of};
 ghost use Rattle.bf_text.specs.Forms.{takes, fits};
+ghost use Rattle.bf_text.specs.Entries.{is_number};
 ghost use Rattle.bf_text.specs.Codes.{word_codes, case_codes, number_codes};
 ghost use Rattle.bf_text.specs.Faults.{is_header, is_missing, is_stretch, has_word_cause, has_number_cause};
 ghost use Rattle.bf_text.specs.Faults.{holds_fill};
@@ -23,7 +24,7 @@ use bf_id::Shape;
 const CELL_LIMIT: u64 = 2_097_152;
 
 /// The most ranks that a case has.
-const RANKS: usize = 16;
+pub const RANKS: usize = 16;
 
 /// What the lines before a line tell of it.
 #[derive(Clone, Copy)]
@@ -154,7 +155,19 @@ fn next_after(next: u32, form: Form) -> u32
 }
 
 impl Outline {
-    ghost use Rattle.bf_text.specs.Drafts.{known_in, outline_with};
+    ghost use Rattle.bf_text.specs.Drafts.{blank_outline, known_in, outline_with};
+
+    /// Nothing has come.
+    pub fn new() -> Outline
+        ensures { result ≡ blank_outline }
+    {
+        Outline {
+            next: 0,
+            ended: false,
+            head: Head::blank(),
+            deaths: [None; RANKS],
+        }
+    }
 
     fn has_come(&self, form: Form) -> bool
         ensures { result ≡ came_below self.now.next form }
@@ -172,7 +185,9 @@ impl Outline {
     /// The first cause that a line has, whatever its numbers are.
     pub fn word_cause(&self, content: &[u8], form: Form, arguments: &[u8]) -> Option<Code>
         requires { self.now.next ≤ 13 }
-        ensures { result ≡ find (has_word_cause (known_in self.now) (entry_in 0 content.now form arguments.now)) word_codes }
+        ensures exact { result ≡ find (has_word_cause (known_in self.now) (entry_in 0 content.now form arguments.now)) word_codes }
+        ensures count { IfNone result (IsTrue (takes form (length (words_of arguments.now)))) }
+        ensures numbers { IfNone result (IsTrue (list_all is_number (words_of arguments.now))) }
     {
         if !is_plain(content) {
             return Some(Code::NotText);
@@ -240,7 +255,8 @@ impl Outline {
         requires small { IsSmall self.now.head }
         requires count { IsTrue (takes form (length numbers.now)) }
         requires ranges { IsTrue (fits form numbers.now) }
-        ensures { result ≡ find (has_number_cause (known_in self.now) form numbers.now) case_codes }
+        ensures exact { result ≡ find (has_number_cause (known_in self.now) form numbers.now) case_codes }
+        ensures rank { IfNone result (form ≡ Form.Die → slice_index numbers.now 0 < 16) }
     {
         match form {
             Form::Levels => when(self.has_too_many_cells(numbers[0]), Code::TooManyCells),
@@ -269,7 +285,8 @@ impl Outline {
     pub fn number_cause(&self, form: Form, numbers: &[u32]) -> Option<Code>
         requires small { IsSmall self.now.head }
         requires count { IsTrue (takes form (length numbers.now)) }
-        ensures { result ≡ find (has_number_cause (known_in self.now) form numbers.now) number_codes }
+        ensures exact { result ≡ find (has_number_cause (known_in self.now) form numbers.now) number_codes }
+        ensures rank { IfNone result (form ≡ Form.Die → slice_index numbers.now 0 < 16) }
     {
         if !form.fits(numbers) {
             return Some(Code::OutOfRange);
@@ -285,7 +302,7 @@ impl Outline {
     {
         Outline {
             next: next_after(self.next, form),
-            ended: self.ended || form == Form::End,
+            ended: form == Form::End || self.ended,
             head: head_with(self.head, form, numbers),
             deaths: deaths_with(self.deaths, form, numbers),
         }
