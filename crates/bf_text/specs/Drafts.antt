@@ -1,7 +1,6 @@
 -- What is kept of the lines that were read.
 use Rattle.std.specs.Prelude.{◌≡◌, ℕ, ◌+◌, ◌≤◌, nat_lt, min, Bool, true, false, ◌&&◌, ◌||◌, if◌then◌else◌, List, [], ◌∷◌, ◌++◌, slice_index, slice_index_or, slice_set, Option, Some, None, is_some, replicate, Result, Ok, Err}
-use Rattle.std.specs.List.{list_all, filter_map, range_with_len}
-use Rattle.std.specs.Option.{option_map}
+use Rattle.std.specs.List.{list_all, flat_map, range_with_len}
 use Rattle.bf_case.specs.declared.case.Case.{Case}
 use Rattle.bf_case.specs.declared.case.Fill.{Fill}
 use Rattle.bf_text.specs.declared.code.Code.TheVariants as code
@@ -14,7 +13,7 @@ use Rattle.bf_text.specs.declared.outline.Outline.{Outline}
 use Rattle.bf_text.specs.declared.draft.Draft.{Draft}
 use Rattle.bf_text.specs.Lines.{is_plain, content_of, words_of}
 use Rattle.bf_text.specs.Forms.{form_of, place_of, same_form, is_heading}
-use Rattle.bf_text.specs.Entries.{Entry, numbers_of, fill_of, case_with}
+use Rattle.bf_text.specs.Entries.{Entry, numbers_of, fill_of, listed, case_with}
 use Rattle.bf_text.specs.Faults.{Known, cause_of}
 use Rattle.bf_text.specs.Heads.{IsSmall}
 use Rattle.bf_text.specs.Reading.{refusal}
@@ -100,7 +99,7 @@ order_in f numbers = if same_form form.Order f then numbers else []
 -- the deaths by rising rank
 abbrev pub deaths_in : List (Option ℕ) → List (ℕ × ℕ)
 deaths_in deaths =
-    filter_map (λ rank. option_map (λ events. (rank, events)) (slice_index_or deaths rank None)) (range_with_len 0 16)
+    flat_map (λ rank. listed rank (slice_index_or deaths rank None)) (range_with_len 0 16)
 
 -- the outline is in its bounds
 pub record IsBounded (o : Outline) : Type 0 where

@@ -1,8 +1,7 @@
 -- The lines with words, and what they give.
 use Rattle.std.specs.Prelude.{ℕ, ◌+◌, ◌==◌, nat_le, Bool, ◌&&◌, if◌then◌else◌, List, [], ◌∷◌, ◌++◌, length, map, slice_index, Option, Some, None}
 use Rattle.std.specs.Char.{is_ascii_digit}
-use Rattle.std.specs.List.{list_all, list_any, range_with_len, filter_map}
-use Rattle.std.specs.Option.{option_map}
+use Rattle.std.specs.List.{list_all, list_any, range_with_len, flat_map}
 use Rattle.std.specs.Str.Parse.{digits_value}
 use Rattle.bf_case.specs.declared.case.Case.{Case}
 use Rattle.bf_case.specs.declared.case.Fill.{Fill}
@@ -91,9 +90,14 @@ death_of rank [] = None
 death_of rank (e ∷ entries) =
     if same_form form.Die e.form && (number_at e 0 == rank) then Some (number_at e 1) else death_of rank entries
 
+-- the death of a rank, if it dies
+abbrev pub listed : ℕ → Option ℕ → List (ℕ × ℕ)
+listed rank None = []
+listed rank (Some events) = (rank, events) ∷ []
+
 -- the deaths by rising rank
 abbrev pub deaths_of : List Entry → List (ℕ × ℕ)
-deaths_of entries = filter_map (λ rank. option_map (λ events. (rank, events)) (death_of rank entries)) (range_with_len 0 16)
+deaths_of entries = flat_map (λ rank. listed rank (death_of rank entries)) (range_with_len 0 16)
 
 -- the case that entries give
 abbrev pub case_with : Head → List Fill → List (ℕ × ℕ) → List ℕ → Case

@@ -1,10 +1,10 @@
 //! A case in the making: what the lines so far give.
-ghost use Rattle.std.specs.Prelude.{◌≡◌, ◌<◌, [], length, slice_index, IfErr, IfOk, IsTrue, OnOk};
+ghost use Rattle.std.specs.Prelude.{◌≡◌, ◌<◌, [], ◌++◌, length, slice_index, IfErr, IfOk, IsTrue, OnOk};
 ghost use Rattle.bf_text.specs.declared.form.Form.TheVariants as Form;
 ghost use Rattle.bf_text.specs.declared.code.CaseFault.TheVariants as CaseFault;
 ghost use Rattle.bf_text.specs.Forms.{takes};
 ghost use Rattle.bf_text.specs.Reading.{refusal};
-ghost use Rattle.bf_text.specs.Entries.{fill_of};
+ghost use Rattle.bf_text.specs.Entries.{fill_of, listed};
 ghost use Rattle.bf_text.specs.Drafts.{blank_outline, deaths_in, known_in, entry_in, IsBounded};
 
 use crate::code::{CaseFault, Code, Refusal};
@@ -41,15 +41,28 @@ fn fill_of(numbers: &[u32]) -> Fill
     }
 }
 
+/// Lists the death of a rank, if it dies.
+fn list_death(
+    list: &mut Vec<(u32, u32)>,
+    rank: u32,
+    death: Option<u32>,
+) -> Result<(), Memory>
+    ensures { OnOk result (list.new.items ≡ list.old.items ++ listed rank death) }
+{
+    match death {
+        Some(events) => list.push((rank, events))?,
+        None => {}
+    }
+    Ok(())
+}
+
 /// The deaths by rising rank.
 fn deaths_of(alloc: Global, deaths: &[Option<u32>; RANKS]) -> Result<Vec<(u32, u32)>, Memory>
     ensures { IfOk result (λ list. list.items ≡ deaths_in deaths.now) }
 {
     let mut list = Vec::new(alloc);
     for rank in 0..16u32 {
-        if let Some(events) = deaths[rank as usize] {
-            list.push((rank, events))?;
-        }
+        list_death(&mut list, rank, deaths[rank as usize])?;
     }
     Ok(list)
 }
