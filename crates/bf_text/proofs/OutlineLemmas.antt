@@ -22,9 +22,9 @@ use Rattle.bf_text.proofs.ClearLemmas.{clear_at, IsClear, clear_parts}
 
 -- the outline is that of these lines, the last one first
 pub record Agrees (o : Outline) (before : List Entry) : Type 0 where
-  pub came : (f : Form) → (is_heading f && came f before) ≡ came_below o.next f
-  pub ended : o.ended ≡ came form.End before
-  pub head : o.head ≡ head_of before
+  pub headings : (f : Form) → (is_heading f && came f before) ≡ came_below o.next f
+  pub end : o.ended ≡ came form.End before
+  pub numbers : o.head ≡ head_of before
   pub deaths : (rank : ℕ) → get_or o.deaths rank None ≡ death_of rank before
   pub sixteen : length o.deaths ≡ 16
   pub bounded : IsBounded o
@@ -38,9 +38,9 @@ funext f g h = λ i x. h x i
 pub same_known : (o : Outline) (before : List Entry) → Agrees o before → known_in o ≡ known_of before
 unfolding known
 same_known o before a =
-    ap (λ c. known c o.ended o.head (dies_in o.deaths)) (sym (funext (λ f. is_heading f && came f before) (came_below o.next) a.came))
-    ∙ ap (λ e. known (λ f. is_heading f && came f before) e o.head (dies_in o.deaths)) a.ended
-    ∙ ap (λ h. known (λ f. is_heading f && came f before) (came form.End before) h (dies_in o.deaths)) a.head
+    ap (λ c. known c o.ended o.head (dies_in o.deaths)) (sym (funext (λ f. is_heading f && came f before) (came_below o.next) a.headings))
+    ∙ ap (λ e. known (λ f. is_heading f && came f before) e o.head (dies_in o.deaths)) a.end
+    ∙ ap (λ h. known (λ f. is_heading f && came f before) (came form.End before) h (dies_in o.deaths)) a.numbers
     ∙ ap (known (λ f. is_heading f && came f before) (came form.End before) (head_of before))
     (funext (dies_in o.deaths) (λ rank. is_some (death_of rank before)) (λ rank. ap is_some (a.deaths rank)))
 
