@@ -91,12 +91,12 @@ came_at pf pg next after true false c f g e place is =
     let same : c ≡ ltb pf next = e in
     rw (ne_eqb pf pg ne, is) same
 
-came_more : (next : ℕ) (f g : Form) (c : Bool) → (is_heading f && c) ≡ came_below next f → (is_heading g ≡ true → place_of g ≡ next)
+pub came_more : (next : ℕ) (f g : Form) (c : Bool) → (is_heading f && c) ≡ came_below next f → (is_heading g ≡ true → place_of g ≡ next)
     → (is_heading f && (same_form f g || c)) ≡ came_below (next_after next g) f
 came_more next f g c e place =
     came_at (place_of f) (place_of g) next (next_after next g) (is_heading f) (is_heading g) c refl refl e place refl
 
-head_more : (f : Form) (line : ℕ) (is_text : Bool) (arguments : List (List ℕ)) (before : List Entry)
+pub head_more : (f : Form) (line : ℕ) (is_text : Bool) (arguments : List (List ℕ)) (before : List Entry)
     → head_with (head_of before) f (map (digits_value 10) arguments) ≡ head_of (record { line = line; is_text = is_text; form = f; arguments = arguments } ∷ before)
 head_more form.Forest line is_text arguments before = refl
 head_more form.Roots line is_text arguments before = refl
@@ -117,7 +117,7 @@ head_more form.Order line is_text arguments before = refl
 head_more form.End line is_text arguments before = refl
 head_more form.Other line is_text arguments before = refl
 
-deaths_more : (f : Form) (line : ℕ) (is_text : Bool) (arguments : List (List ℕ)) (before : List Entry) (deaths : List (Option ℕ)) (rank : ℕ)
+pub deaths_more : (f : Form) (line : ℕ) (is_text : Bool) (arguments : List (List ℕ)) (before : List Entry) (deaths : List (Option ℕ)) (rank : ℕ)
     → (f ≡ form.Die → slice_index (map (digits_value 10) arguments) 0 < length deaths) → get_or deaths rank None ≡ death_of rank before
     → get_or (deaths_with deaths f (map (digits_value 10) arguments)) rank None ≡ death_of rank (record { line = line; is_text = is_text; form = f; arguments = arguments } ∷ before)
 deaths_more form.Forest line is_text arguments before deaths rank within e = e
@@ -147,7 +147,7 @@ deaths_more form.Die line is_text arguments before deaths rank within e =
 deaths_more form.Order line is_text arguments before deaths rank within e = e
 deaths_more form.End line is_text arguments before deaths rank within e = e
 deaths_more form.Other line is_text arguments before deaths rank within e = e
-length_deaths : (f : Form) (deaths : List (Option ℕ)) (numbers : List ℕ) → length (deaths_with deaths f numbers) ≡ length deaths
+pub length_deaths : (f : Form) (deaths : List (Option ℕ)) (numbers : List ℕ) → length (deaths_with deaths f numbers) ≡ length deaths
 length_deaths form.Forest deaths numbers = refl
 length_deaths form.Roots deaths numbers = refl
 length_deaths form.Side deaths numbers = refl

@@ -24,7 +24,7 @@ pub struct Draft {
     pub order: Vec<u32>,
 }
 
-fn refused(line: u32, code: Code) -> CaseFault
+pub fn refused(line: u32, code: Code) -> CaseFault
     ensures { result ≡ CaseFault.Refused (refusal line code) }
 {
     CaseFault::Refused(Refusal { line, code })

@@ -12,6 +12,8 @@ mod head;
 mod lines;
 mod numbers;
 mod outline;
+mod reader;
 
 pub use bf_edge::Memory;
 pub use code::{CaseFault, Code, Refusal};
+pub use reader::{INPUT_LIMIT, read_case};
