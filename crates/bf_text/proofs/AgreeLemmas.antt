@@ -1,11 +1,10 @@
 -- An outline goes on to tell what the lines before tell, line by line.
-use Rattle.std.proofs.Common.{◌≡◌, ℕ, zero, suc, ◌+◌, ◌<◌, ◌≤◌, Bool, true, false, not, ◌&&◌, ◌||◌, cond, ltb, leb, eqb, List, [], ◌∷◌, Option, Some, None, length, map, get_or, replicate, refl, sym, ap, subst, ◌∙◌, arith, lit<}
+use Rattle.std.proofs.Common.{◌≡◌, ℕ, zero, suc, ◌+◌, ◌<◌, ◌≤◌, true, false, not, ◌&&◌, ◌||◌, leb, eqb, List, [], ◌∷◌, Option, None, length, get_or, replicate, refl, sym, ap, subst, ◌∙◌, arith, lit<}
 use Rattle.std.specs.Prelude.{slice_index}
 use Rattle.std.specs.Str.Parse.{digits_value}
 use Rattle.std.proofs.lemmas.Bool.{and_parts, leb-true, leb-false, eqb-true, not-false, cond_both}
 use Rattle.std.proofs.lemmas.List.{length-map}
 use Rattle.bf_id.specs.declared.shape.Shape.{Shape}
-use Rattle.bf_text.specs.declared.code.Code.TheVariants as code
 use Rattle.bf_text.specs.declared.form.Range.{Range}
 use Rattle.bf_text.specs.declared.form.Form.{Form}
 use Rattle.bf_text.specs.declared.form.Form.TheVariants as form
@@ -16,8 +15,8 @@ use Rattle.bf_text.specs.Forms.{place_of, same_form, is_heading, takes, fits, is
 use Rattle.bf_text.specs.Entries.{Entry, numbers_of, came}
 use Rattle.bf_text.specs.Faults.{is_missing, cause_of, has_word_cause, has_number_cause, kills_no_rank}
 use Rattle.bf_text.specs.Heads.{IsSmall}
-use Rattle.bf_text.specs.Drafts.{came_below, known_in, head_with, next_after, outline_with, blank_outline, IsBounded}
-use Rattle.bf_text.proofs.ClearLemmas.{clear_at, IsClear, clear_parts}
+use Rattle.bf_text.specs.Drafts.{came_below, known_in, head_with, next_after, outline_with, blank_outline}
+use Rattle.bf_text.proofs.ClearLemmas.{clear_at, clear_parts}
 use Rattle.bf_text.proofs.OutlineLemmas.{Agrees, heading_next, came_more, head_more, deaths_more, length_deaths}
 
 -- ---- bounds
@@ -55,10 +54,10 @@ same_small h k roots side ranks small = record {
 small_more : (f : Form) (h : Head) (ns : List ℕ) → IsSmall h → takes f (length ns) ≡ true → fits f ns ≡ true → IsSmall (head_with h f ns)
 small_more form.Forest h ns small count fit = small
 small_more form.Roots h ns small count fit = roots_small h ns small count fit
-small_more form.Side h ns small count fit = 
+small_more form.Side h ns small count fit =
     record { few_x = small.few_x; few_y = small.few_y; few_z = small.few_z; narrow = first_high (from_to 2 16) ns count (and_parts (are_within (from_to 2 16 ∷ []) ns) _ fit).0; few_ranks = small.few_ranks }
 small_more form.Levels h ns small count fit = same_small h (head_with h form.Levels ns) refl refl refl small
-small_more form.Ranks h ns small count fit = 
+small_more form.Ranks h ns small count fit =
     record { few_x = small.few_x; few_y = small.few_y; few_z = small.few_z; narrow = small.narrow; few_ranks = first_high (from_to 1 16) ns count fit }
 small_more form.Steps h ns small count fit = same_small h (head_with h form.Steps ns) refl refl refl small
 small_more form.Snapshot h ns small count fit = same_small h (head_with h form.Snapshot ns) refl refl refl small
@@ -73,6 +72,7 @@ small_more form.Die h ns small count fit = small
 small_more form.Order h ns small count fit = small
 small_more form.End h ns small count fit = small
 small_more form.Other h ns small count fit = small
+
 next_low : (next : ℕ) (g : Form) → next ≤ 13 → next_after next g ≤ 13
 next_low next g low =
     cond_both (leb (place_of g) 12) (place_of g + 1) next (λ n. n ≤ 13) (λ e. omega (arith, leb-true (place_of g) 12 e)) (λ e. low)
@@ -133,6 +133,7 @@ nothing_came form.Die = refl
 nothing_came form.Order = refl
 nothing_came form.End = refl
 nothing_came form.Other = refl
+
 pub agrees_blank : Agrees blank_outline []
 agrees_blank = record {
   headings = nothing_came;

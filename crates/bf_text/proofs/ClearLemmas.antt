@@ -1,5 +1,5 @@
 -- What a line without a cause is.
-use Rattle.std.proofs.Common.{◌≡◌, ℕ, zero, suc, ◌<◌, Bool, true, false, cond, List, [], ◌∷◌, Option, Some, None, get_or, length, refl, arith, lit<}
+use Rattle.std.proofs.Common.{◌≡◌, ℕ, zero, suc, ◌<◌, Bool, true, false, cond, List, [], ◌∷◌, Option, Some, None, get_or, length, refl, arith}
 use Rattle.std.specs.List.{find}
 use Rattle.bf_text.specs.declared.code.Code.{Code}
 use Rattle.bf_text.specs.declared.code.Code.TheVariants as code

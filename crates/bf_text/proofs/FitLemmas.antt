@@ -1,5 +1,5 @@
 -- Numbers in the ranges of a form have 32 bits.
-use Rattle.std.proofs.Common.{◌≡◌, ℕ, ◌≤◌, Bool, true, false, ◌&&◌, leb, List, [], ◌∷◌, Option, Some, None, length, map, refl, sym, ◌∙◌, arith, subst}
+use Rattle.std.proofs.Common.{◌≡◌, ℕ, ◌≤◌, Bool, true, false, leb, List, [], ◌∷◌, Some, None, length, refl, sym, ◌∙◌, arith, subst}
 use Rattle.std.specs.List.{list_all, find}
 use Rattle.std.specs.Str.Parse.{digits_value}
 use Rattle.std.proofs.lemmas.Bool.{and_parts, and_from, leb-true, le-leb, eqb-true, false_from_ne_true}

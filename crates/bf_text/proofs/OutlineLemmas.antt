@@ -1,24 +1,19 @@
 -- An outline tells what the lines before tell.
-use Rattle.std.proofs.Common.{◌≡◌, ◌≢◌, ℕ, zero, suc, ◌+◌, ◌<◌, ◌≤◌, ◌⊎◌, Bool, true, false, not, ◌&&◌, ◌||◌, cond, ltb, leb, eqb, min, List, [], ◌∷◌, ◌++◌, Option, Some, None, length, map, get_or, set, refl, sym, ap, subst, ◌∙◌, inl, inr, arith, lit<, get_or-set_same, get_or-set_other}
-use Rattle.std.specs.Prelude.{is_some, slice_index, nat_lt}
+use Rattle.std.proofs.Common.{◌≡◌, ℕ, ◌+◌, ◌<◌, ◌≤◌, Bool, true, false, ◌&&◌, ◌||◌, cond, ltb, leb, eqb, List, ◌∷◌, Option, Some, None, length, map, get_or, set, refl, sym, ap, ◌∙◌, inl, inr, arith, get_or-set_same, get_or-set_other}
+use Rattle.std.specs.Prelude.{is_some, slice_index}
 use Rattle.std.specs.Str.Parse.{digits_value}
-use Rattle.std.specs.List.{find, list_all}
-use Rattle.std.proofs.lemmas.Bool.{and_parts, leb-true, leb-false, ltb-false, lt-ltb, le-ltb, eq-eqb, ne_eqb, eqb-true, cases_lt, cases_eq, not-false}
+use Rattle.std.proofs.lemmas.Bool.{leb-true, leb-false, ltb-false, eq-eqb, ne_eqb, cases_eq}
 use Rattle.std.proofs.lemmas.Bool.Decides.{nat_tests}
-use Rattle.std.proofs.lemmas.List.{length-map, length-set}
-use Rattle.bf_text.specs.declared.code.Code.TheVariants as code
+use Rattle.std.proofs.lemmas.List.{length-set}
 use Rattle.bf_text.specs.declared.form.Form.{Form}
 use Rattle.bf_text.specs.declared.form.Form.TheVariants as form
 use Rattle.bf_text.specs.declared.head.Head.{Head}
 use Rattle.bf_text.specs.declared.outline.Outline.{Outline}
-use Rattle.bf_text.specs.Codes.{word_codes, number_codes}
-use Rattle.bf_text.specs.Forms.{place_of, same_form, is_heading, takes, fits, ranges_of, is_within, are_within}
-use Rattle.bf_text.specs.Entries.{Entry, numbers_of, came, head_of, death_of}
-use Rattle.bf_text.specs.Faults.{Known, known_of, is_missing, cause_of, has_word_cause, has_number_cause}
-use Rattle.bf_text.specs.Heads.{IsSmall}
-use Rattle.bf_text.specs.Drafts.{came_below, dies_in, known_in, due_place, head_with, deaths_with, next_after, outline_with, IsBounded}
+use Rattle.bf_text.specs.Forms.{place_of, same_form, is_heading}
+use Rattle.bf_text.specs.Entries.{Entry, came, head_of, death_of}
+use Rattle.bf_text.specs.Faults.{Known, known_of, is_missing}
+use Rattle.bf_text.specs.Drafts.{came_below, dies_in, known_in, due_place, head_with, deaths_with, next_after, IsBounded}
 use Rattle.bf_text.proofs.MissingLemmas.{missing_is}
-use Rattle.bf_text.proofs.ClearLemmas.{clear_at, IsClear, clear_parts}
 
 -- the outline is that of these lines, the last one first
 pub record Agrees (o : Outline) (before : List Entry) : Type 0 where
@@ -147,6 +142,7 @@ deaths_more form.Die line is_text arguments before deaths rank within e =
 deaths_more form.Order line is_text arguments before deaths rank within e = e
 deaths_more form.End line is_text arguments before deaths rank within e = e
 deaths_more form.Other line is_text arguments before deaths rank within e = e
+
 pub length_deaths : (f : Form) (deaths : List (Option ℕ)) (numbers : List ℕ) → length (deaths_with deaths f numbers) ≡ length deaths
 length_deaths form.Forest deaths numbers = refl
 length_deaths form.Roots deaths numbers = refl

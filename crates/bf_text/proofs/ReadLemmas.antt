@@ -1,11 +1,10 @@
 -- Reading line by line comes to what the lines spell.
-use Rattle.std.proofs.Common.{◌≡◌, ℕ, ◌+◌, ◌<◌, ◌≤◌, Bool, true, false, cond, List, [], ◌∷◌, ◌++◌, Option, Some, None, Result, Ok, Err, length, refl, sym, ap, subst, ◌∙◌, arith}
-use Rattle.std.specs.List.{list_all, range_with_len, flat_map}
+use Rattle.std.proofs.Common.{◌≡◌, ℕ, ◌+◌, ◌<◌, ◌≤◌, Bool, true, false, cond, List, [], ◌∷◌, ◌++◌, Some, None, Result, Ok, Err, length, refl, sym, ap, subst, ◌∙◌, arith}
+use Rattle.std.specs.List.{list_all, range_with_len}
 use Rattle.bf_case.specs.declared.case.Case.{Case}
 use Rattle.bf_case.specs.declared.case.Fill.{Fill}
 use Rattle.bf_text.specs.declared.code.Code.{Code}
 use Rattle.bf_text.specs.declared.code.Code.TheVariants as code
-use Rattle.bf_text.specs.declared.code.Refusal.{Refusal}
 use Rattle.bf_text.specs.declared.code.CaseFault.{CaseFault}
 use Rattle.bf_text.specs.declared.code.CaseFault.TheVariants as fault
 use Rattle.bf_text.specs.declared.form.Form.TheVariants as form
@@ -13,10 +12,10 @@ use Rattle.bf_text.specs.declared.head.Head.{Head}
 use Rattle.bf_text.specs.declared.draft.Draft.{Draft}
 use Rattle.bf_text.specs.Lines.{is_plain, lines_of, content_of, words_of}
 use Rattle.bf_text.specs.Forms.{form_of}
-use Rattle.bf_text.specs.Entries.{Entry, entries_from, with_entry, numbers_of, came, head_of, fills_of, order_of, deaths_of, listed, death_of, case_with, case_of}
-use Rattle.bf_text.specs.Faults.{known_of, cause_of, Known}
+use Rattle.bf_text.specs.Entries.{Entry, entries_from, with_entry, numbers_of, came, head_of, fills_of, order_of, deaths_of, listed, case_with, case_of}
+use Rattle.bf_text.specs.Faults.{known_of, cause_of}
 use Rattle.bf_text.specs.Reading.{refusal, refused_or, reading_after, reading_of_lines, IsReadingOf}
-use Rattle.bf_text.specs.Drafts.{known_in, blank_outline, deaths_in, fills_in, order_in, AddsLine, TakesEntry, IsFaultOf, IsSameDraft, TakesWords, IsFaultOfWords, TakesLine, IsFaultOfLine, IsFinished}
+use Rattle.bf_text.specs.Drafts.{known_in, blank_outline, deaths_in, fills_in, order_in, TakesEntry, IsSameDraft, TakesWords, IsFaultOfWords, TakesLine, IsFaultOfLine, IsFinished}
 use Rattle.bf_text.proofs.RangeLemmas.{flat_same}
 use Rattle.bf_text.proofs.OutlineLemmas.{Agrees, same_known}
 use Rattle.bf_text.proofs.AgreeLemmas.{agrees_more, agrees_blank}

@@ -42,11 +42,7 @@ fn fill_of(numbers: &[u32]) -> Fill
 }
 
 /// Lists the death of a rank, if it dies.
-fn list_death(
-    list: &mut Vec<(u32, u32)>,
-    rank: u32,
-    death: Option<u32>,
-) -> Result<(), Memory>
+fn list_death(list: &mut Vec<(u32, u32)>, rank: u32, death: Option<u32>) -> Result<(), Memory>
     ensures { OnOk result (list.new.items ≡ list.old.items ++ listed rank death) }
 {
     match death {
