@@ -7,3 +7,4 @@ pub mod Faults
 pub mod Reading
 pub mod Heads
 pub mod Drafts
+pub mod HeadText

@@ -13,7 +13,9 @@ mod lines;
 mod numbers;
 mod outline;
 mod reader;
+mod writer;
 
 pub use bf_edge::Memory;
 pub use code::{CaseFault, Code, Refusal};
 pub use reader::{INPUT_LIMIT, read_case};
+pub use writer::write_case;
