@@ -2,7 +2,7 @@
 ghost use Rattle.std.specs.Prelude.{◌≡◌, [], ◌∷◌, ◌++◌, ◌≤◌, decimal, codes, flat_map, OnOk, OnErr};
 ghost use Rattle.bf_edge.specs.Faults.{Rose};
 ghost use Rattle.bf_edge.specs.Sink.{appended, AppendsPrefix};
-ghost use Rattle.bf_case.specs.CaseText.{spaced, line, fill_text, death_text, order_text, case_text};
+ghost use Rattle.bf_case.specs.CaseText.{spaced, line, fill_text, death_text, order_text, head_text, case_text};
 ghost use Rattle.bf_text.specs.HeadText.{sizes_text, times_text, limits_text};
 
 use bf_case::{Case, Fill};
@@ -128,12 +128,16 @@ fn write_fill<W: Sink>(sink: &mut W, fill: &Fill) -> Result<(), Failed>
 {
     let [low_x, low_y, low_z] = fill.low;
     let [high_x, high_y, high_z] = fill.high;
-    write_line(sink, b"fill", &[low_x, low_y, low_z, high_x, high_y, high_z, fill.value])
+    write_line(
+        sink,
+        b"fill",
+        &[low_x, low_y, low_z, high_x, high_y, high_z, fill.value],
+    )
 }
 
 // The fills in their order.
 #[tactic(auto, using(bf_edge::proofs::Appending::texts_in_turn))]
-fn write_fills<W: Sink>(sink: &mut W, fills: &[Fill]) -> Result<(), Failed>
+fn write_fill_lines<W: Sink>(sink: &mut W, fills: &[Fill]) -> Result<(), Failed>
     ensures all { OnOk result (W.written sink.new ≡ appended (W.written sink.old) (flat_map fill_text fills.now)) }
     ensures steady { OnOk result (W.faults sink.new ≡ W.faults sink.old) }
 
@@ -149,7 +153,7 @@ fn write_fills<W: Sink>(sink: &mut W, fills: &[Fill]) -> Result<(), Failed>
 
 // The deaths in their order.
 #[tactic(auto, using(bf_edge::proofs::Appending::texts_in_turn))]
-fn write_deaths<W: Sink>(sink: &mut W, deaths: &[(u32, u32)]) -> Result<(), Failed>
+fn write_death_lines<W: Sink>(sink: &mut W, deaths: &[(u32, u32)]) -> Result<(), Failed>
     ensures all { OnOk result (W.written sink.new ≡ appended (W.written sink.old) (flat_map death_text deaths.now)) }
     ensures steady { OnOk result (W.faults sink.new ≡ W.faults sink.old) }
 
@@ -165,7 +169,7 @@ fn write_deaths<W: Sink>(sink: &mut W, deaths: &[(u32, u32)]) -> Result<(), Fail
 
 // The order, if it has ranks.
 #[tactic(auto, using(bf_edge::proofs::Appending::texts_in_turn))]
-fn write_order<W: Sink>(sink: &mut W, order: &[u32]) -> Result<(), Failed>
+fn write_order_line<W: Sink>(sink: &mut W, order: &[u32]) -> Result<(), Failed>
     ensures all { OnOk result (W.written sink.new ≡ appended (W.written sink.old) (order_text order.now)) }
     ensures steady { OnOk result (W.faults sink.new ≡ W.faults sink.old) }
 
@@ -179,6 +183,57 @@ fn write_order<W: Sink>(sink: &mut W, order: &[u32]) -> Result<(), Failed>
     write_line(sink, b"order", order)
 }
 
+// The fills.
+fn write_fills<W: Sink>(sink: &mut W, case: &Case) -> Result<(), Failed>
+    ensures all { OnOk result (W.written sink.new ≡ appended (W.written sink.old) (flat_map fill_text case.now.fills)) }
+    ensures steady { OnOk result (W.faults sink.new ≡ W.faults sink.old) }
+
+    ensures rose { OnErr result (Rose (W.faults sink.old) (W.faults sink.new)) }
+    ensures prefix { OnErr result (AppendsPrefix (W.written sink.old) (W.written sink.new) (flat_map fill_text case.now.fills)) }
+    ensures never_falls { W.faults sink.old ≤ W.faults sink.new }
+{
+    write_fill_lines(sink, case.fills.as_slice())
+}
+
+// The deaths.
+fn write_deaths<W: Sink>(sink: &mut W, case: &Case) -> Result<(), Failed>
+    ensures all { OnOk result (W.written sink.new ≡ appended (W.written sink.old) (flat_map death_text case.now.dies)) }
+    ensures steady { OnOk result (W.faults sink.new ≡ W.faults sink.old) }
+
+    ensures rose { OnErr result (Rose (W.faults sink.old) (W.faults sink.new)) }
+    ensures prefix { OnErr result (AppendsPrefix (W.written sink.old) (W.written sink.new) (flat_map death_text case.now.dies)) }
+    ensures never_falls { W.faults sink.old ≤ W.faults sink.new }
+{
+    write_death_lines(sink, case.dies.as_slice())
+}
+
+// The order.
+fn write_order<W: Sink>(sink: &mut W, case: &Case) -> Result<(), Failed>
+    ensures all { OnOk result (W.written sink.new ≡ appended (W.written sink.old) (order_text case.now.order)) }
+    ensures steady { OnOk result (W.faults sink.new ≡ W.faults sink.old) }
+
+    ensures rose { OnErr result (Rose (W.faults sink.old) (W.faults sink.new)) }
+    ensures prefix { OnErr result (AppendsPrefix (W.written sink.old) (W.written sink.new) (order_text case.now.order)) }
+    ensures never_falls { W.faults sink.old ≤ W.faults sink.new }
+{
+    write_order_line(sink, case.order.as_slice())
+}
+
+// The lines that each case has.
+#[tactic(auto, using(bf_edge::proofs::Appending::texts_in_turn))]
+fn write_head<W: Sink>(sink: &mut W, case: &Case) -> Result<(), Failed>
+    ensures all { OnOk result (W.written sink.new ≡ appended (W.written sink.old) (head_text case.now)) }
+    ensures steady { OnOk result (W.faults sink.new ≡ W.faults sink.old) }
+
+    ensures rose { OnErr result (Rose (W.faults sink.old) (W.faults sink.new)) }
+    ensures prefix { OnErr result (AppendsPrefix (W.written sink.old) (W.written sink.new) (head_text case.now)) }
+    ensures never_falls { W.faults sink.old ≤ W.faults sink.new }
+{
+    write_sizes(sink, case)?;
+    write_times(sink, case)?;
+    write_limits(sink, case)
+}
+
 /// Writes the canonical text of a case. Where the sink fails, a front of it was written.
 #[tactic(auto, using(bf_edge::proofs::Appending::texts_in_turn))]
 pub fn write_case<W: Sink>(case: &Case, sink: &mut W) -> Result<(), Failed>
@@ -189,11 +244,9 @@ pub fn write_case<W: Sink>(case: &Case, sink: &mut W) -> Result<(), Failed>
     ensures prefix { OnErr result (AppendsPrefix (W.written sink.old) (W.written sink.new) (case_text case.now)) }
     ensures never_falls { W.faults sink.old ≤ W.faults sink.new }
 {
-    write_sizes(sink, case)?;
-    write_times(sink, case)?;
-    write_limits(sink, case)?;
-    write_fills(sink, case.fills.as_slice())?;
-    write_deaths(sink, case.dies.as_slice())?;
-    write_order(sink, case.order.as_slice())?;
+    write_head(sink, case)?;
+    write_fills(sink, case)?;
+    write_deaths(sink, case)?;
+    write_order(sink, case)?;
     write_line(sink, b"end", &[])
 }

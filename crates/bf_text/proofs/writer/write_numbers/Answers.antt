@@ -1,6 +1,5 @@
-use Rattle.std.proofs.Common.{◌∷◌, decimal, refl, arith, rules}
-use Rattle.bf_case.specs.CaseText.{fill_text, death_text}
-use Rattle.bf_text.proofs.WriteLemmas.{on_err, item_written, item_broken}
+use Rattle.std.proofs.Common.{◌∷◌, decimal, arith}
+use Rattle.bf_text.proofs.WriteLemmas.{on_err, item_broken}
 use Rattle.bf_text.proofs.writer.write_numbers.Goals as goal
 
 pub returns-in_err-write_number-clause-prefix : goal.returns-in_err-write_number-clause-prefix

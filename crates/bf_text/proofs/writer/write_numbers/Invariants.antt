@@ -1,6 +1,5 @@
 use Rattle.std.proofs.Common.{◌≡◌, ◌∷◌, take, flat_map, decimal}
 use Rattle.bf_edge.specs.Sink.{appended}
-use Rattle.bf_case.specs.CaseText.{fill_text, death_text}
 use Rattle.bf_text.proofs.writer.write_numbers.Given as goal
 
 abbrev pub invariant-loop-number : goal.invariant-loop-number

@@ -1,6 +1,4 @@
-use Rattle.std.proofs.Common.{refl, sym, subst, arith}
-use Rattle.std.proofs.lemmas.Result.{on_err_weaker, on_ok_weaker}
-use Rattle.bf_edge.specs.Sink.{appended, AppendsPrefix}
+use Rattle.std.proofs.lemmas.Result.{on_err_weaker}
 use Rattle.bf_edge.proofs.Appending.{AppendsPrefix-first, AppendsPrefix-second}
 use Rattle.bf_text.proofs.WriteLemmas.{on_err}
 use Rattle.bf_text.proofs.writer.write_sizes.Goals as goal

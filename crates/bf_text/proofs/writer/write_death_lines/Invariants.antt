@@ -1,7 +1,7 @@
-use Rattle.std.proofs.Common.{◌≡◌, ◌∷◌, take, flat_map, decimal}
+use Rattle.std.proofs.Common.{◌≡◌, take, flat_map}
 use Rattle.bf_edge.specs.Sink.{appended}
-use Rattle.bf_case.specs.CaseText.{fill_text, death_text}
-use Rattle.bf_text.proofs.writer.write_deaths.Given as goal
+use Rattle.bf_case.specs.CaseText.{death_text}
+use Rattle.bf_text.proofs.writer.write_death_lines.Given as goal
 
 abbrev pub invariant-loop-rank : goal.invariant-loop-rank
 invariant-loop-rank g l = record {

@@ -1,7 +1,7 @@
-use Rattle.std.proofs.Common.{◌∷◌, decimal, refl, arith, rules}
-use Rattle.bf_case.specs.CaseText.{fill_text, death_text}
+use Rattle.std.proofs.Common.{arith, rules}
+use Rattle.bf_case.specs.CaseText.{fill_text}
 use Rattle.bf_text.proofs.WriteLemmas.{on_err, item_written, item_broken}
-use Rattle.bf_text.proofs.writer.write_fills.Goals as goal
+use Rattle.bf_text.proofs.writer.write_fill_lines.Goals as goal
 
 pub loop-fill-preserved : goal.loop-fill-preserved
 loop-fill-preserved g c = record {

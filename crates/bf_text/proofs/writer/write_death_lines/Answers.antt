@@ -1,7 +1,7 @@
-use Rattle.std.proofs.Common.{◌∷◌, decimal, refl, arith, rules}
-use Rattle.bf_case.specs.CaseText.{fill_text, death_text}
-use Rattle.bf_text.proofs.WriteLemmas.{on_err, item_written, item_broken}
-use Rattle.bf_text.proofs.writer.write_deaths.Goals as goal
+use Rattle.std.proofs.Common.{arith}
+use Rattle.bf_case.specs.CaseText.{death_text}
+use Rattle.bf_text.proofs.WriteLemmas.{on_err, item_broken}
+use Rattle.bf_text.proofs.writer.write_death_lines.Goals as goal
 
 pub returns-in_err-write_line-clause-prefix : goal.returns-in_err-write_line-clause-prefix
 returns-in_err-write_line-clause-prefix g c =

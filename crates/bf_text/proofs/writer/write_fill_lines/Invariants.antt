@@ -1,7 +1,7 @@
-use Rattle.std.proofs.Common.{◌≡◌, ◌∷◌, take, flat_map, decimal}
+use Rattle.std.proofs.Common.{◌≡◌, take, flat_map}
 use Rattle.bf_edge.specs.Sink.{appended}
-use Rattle.bf_case.specs.CaseText.{fill_text, death_text}
-use Rattle.bf_text.proofs.writer.write_fills.Given as goal
+use Rattle.bf_case.specs.CaseText.{fill_text}
+use Rattle.bf_text.proofs.writer.write_fill_lines.Given as goal
 
 abbrev pub invariant-loop-fill : goal.invariant-loop-fill
 invariant-loop-fill g l = record {
