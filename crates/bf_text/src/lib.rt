@@ -13,6 +13,8 @@ mod lines;
 mod numbers;
 mod outline;
 mod reader;
+#[cfg(test)]
+mod tests;
 mod writer;
 
 pub use bf_edge::Memory;
