@@ -57,7 +57,7 @@ holds_same old new before h s = record {
   order = s.order ∙ h.order;
 }
 
-sound_goes_on : (last : ℕ) (before : List Entry) (e : Entry) (es : List Entry) → cause_of (known_of before) e ≡ None
+pub sound_goes_on : (last : ℕ) (before : List Entry) (e : Entry) (es : List Entry) → cause_of (known_of before) e ≡ None
     → reading_after last before (e ∷ es) ≡ reading_after last (e ∷ before) es
 unfolding reading_after
 sound_goes_on last before e es none = ap (λ c. refused_or e.line c (reading_after last (e ∷ before) es)) none
@@ -127,7 +127,7 @@ reads_fault bytes rest line ls d number f r lines is =
     (list_all is_plain (content_of line)) (words_of (content_of line)) f r.holds
     (left_of_line bytes rest line ls number r.before lines r.left) is
 
-at_end : (last : ℕ) (before : List Entry) → reading_after last before [] ≡ cond (came form.End before) (Ok (case_of before)) (Err (refusal last code.NoEnd))
+pub at_end : (last : ℕ) (before : List Entry) → reading_after last before [] ≡ cond (came form.End before) (Ok (case_of before)) (Err (refusal last code.NoEnd))
 unfolding reading_after
 at_end last before = refl
 
