@@ -1,6 +1,6 @@
 -- Reading goes along the lines of a canonical text.
-use Rattle.std.proofs.Common.{◌≡◌, ◌≢◌, ℕ, zero, suc, ◌+◌, ◌-◌, ◌<◌, ◌≤◌, ◌^◌, Bool, true, false, not, ◌&&◌, ◌||◌, cond, ltb, leb, eqb, List, [], ◌∷◌, ◌++◌, Option, Some, None, Result, Ok, Err, length, map, take, get_or, refl, sym, ap, subst, ◌∙◌, append_assoc, arith, rules, tests, lit<}
-use Rattle.std.specs.Prelude.{decimal, codes}
+use Rattle.std.proofs.Common.{◌≡◌, ℕ, ◌+◌, ◌-◌, ◌<◌, ◌^◌, Bool, true, false, ◌||◌, ltb, eqb, List, [], ◌∷◌, ◌++◌, None, Result, length, map, get_or, refl, sym, ap, subst, ◌∙◌, append_assoc, arith}
+use Rattle.std.specs.Prelude.{decimal}
 use Rattle.std.specs.List.{list_all, find, before_first, position_or_len}
 use Rattle.std.specs.Str.Lines.{strip_carriage_return}
 use Rattle.std.specs.Str.Parse.{digits_value}
@@ -11,7 +11,6 @@ use Rattle.bf_case.specs.declared.case.Case.{Case}
 use Rattle.bf_case.specs.declared.case.Fill.{Fill}
 use Rattle.bf_case.specs.CaseText.{spaced, line}
 use Rattle.bf_text.specs.declared.code.Refusal.{Refusal}
-use Rattle.bf_text.specs.declared.code.Code.TheVariants as code
 use Rattle.bf_text.specs.declared.form.Form.{Form}
 use Rattle.bf_text.specs.declared.form.Form.TheVariants as form
 use Rattle.bf_text.specs.declared.outline.Outline.{Outline}
@@ -19,7 +18,7 @@ use Rattle.bf_text.specs.Codes.{word_codes, number_codes}
 use Rattle.bf_text.specs.Lines.{is_feed, is_hash, is_plain, without_empty_end, lines_of, content_of, words_of}
 use Rattle.bf_text.specs.Forms.{form_of, takes}
 use Rattle.bf_text.specs.Entries.{Entry, entries_from, with_entry, is_number, numbers_of, fills_of, order_of}
-use Rattle.bf_text.specs.Faults.{Known, known_of, is_header, is_missing, has_word_cause, has_number_cause, cause_of}
+use Rattle.bf_text.specs.Faults.{known_of, is_header, is_missing, has_word_cause, has_number_cause, cause_of}
 use Rattle.bf_text.specs.Reading.{reading_after}
 use Rattle.bf_text.specs.Drafts.{came_below, known_in, outline_with, fills_in, order_in}
 use Rattle.bf_text.proofs.LineLemmas.{keep_split}

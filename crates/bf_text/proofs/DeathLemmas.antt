@@ -1,9 +1,8 @@
 -- Deaths by rising rank, kept by their ranks and listed again.
 use Rattle.std.proofs.Common.{◌≡◌, ◌≢◌, ℕ, zero, suc, ◌+◌, ◌<◌, ◌≤◌, ◌^◌, List, [], ◌∷◌, ◌++◌, Option, Some, None, length, map, get_or, set, replicate, refl, sym, ap, subst, ◌∙◌, inl, inr, arith, get_or-set_same, get_or-set_other}
-use Rattle.std.specs.Prelude.{slice_index}
 use Rattle.std.specs.List.{All, flat_map, range_with_len}
 use Rattle.std.specs.List.Sorted.{IsStrictlyIncreasing}
-use Rattle.std.proofs.lemmas.Bool.{cases_lt, cases_eq}
+use Rattle.std.proofs.lemmas.Bool.{cases_eq}
 use Rattle.std.proofs.lemmas.List.{length-set}
 use Rattle.bf_case.specs.Case.{IsDeath}
 use Rattle.bf_text.specs.Entries.{listed}
@@ -20,13 +19,20 @@ rising_from ranks a (d ∷ []) all up first =
     let one = all 0 d (omega arith) in (first (omega arith), (one.0, (one.1, tt)))
 rising_from ranks a (d ∷ e ∷ ds) all up first =
     let one = all 0 d (omega arith) in
-    let next : d.0 < e.0 = up 0 (omega arith) in
-    (first (omega arith), (one.0, (one.1,
-    rising_from ranks (d.0 + 1) (e ∷ ds) (λ k x h. all (suc k) x (omega arith))
-    (λ k h. (let e1 : suc k + 1 ≡ suc (k + 1) = omega arith in
-    let step = up (suc k) (omega arith) in
-    subst (λ n. get_or (map (λ (x : ℕ × ℕ). x.0) (d ∷ e ∷ ds)) (suc k) 0 < get_or (map (λ (x : ℕ × ℕ). x.0) (d ∷ e ∷ ds)) n 0) e1 step))
-    (λ h. omega arith))))
+    let next : d.0 < e.0 = up 0 (omega arith) in (
+      first (omega arith),
+      (
+        one.0,
+        (
+          one.1,
+          rising_from ranks (d.0 + 1) (e ∷ ds) (λ k x h. all (suc k) x (omega arith))
+              (λ k h. (let e1 : suc k + 1 ≡ suc (k + 1) = omega arith in
+              let step = up (suc k) (omega arith) in
+              subst (λ n. get_or (map (λ (x : ℕ × ℕ). x.0) (d ∷ e ∷ ds)) (suc k) 0 < get_or (map (λ (x : ℕ × ℕ). x.0) (d ∷ e ∷ ds)) n 0) e1 step))
+              (λ h. omega arith),
+        ),
+      ),
+    )
 
 -- the deaths at their ranks
 abbrev pub placed : List (Option ℕ) → List (ℕ × ℕ) → List (Option ℕ)
@@ -84,7 +90,7 @@ list_again ranks (suc n) a deaths (d ∷ ds) few all sixteen clear up =
           ∙ list_again ranks n (a + 1) deaths (d ∷ ds) few (omega arith) sixteen (λ k h. clear k (omega arith)) (later, up.1)
     ]
 
-blank_clear : (n k : ℕ) → get_or (replicate n (let none : Option ℕ = None in none)) k None ≡ None
+pub blank_clear : (n k : ℕ) → get_or (replicate n (let none : Option ℕ = None in none)) k None ≡ None
 blank_clear zero k = refl
 blank_clear (suc n) zero = refl
 blank_clear (suc n) (suc k) = blank_clear n k

@@ -1,19 +1,17 @@
 -- The canonical text of a valid case is read as that case.
-use Rattle.std.proofs.Common.{◌≡◌, ℕ, zero, suc, ◌+◌, ◌*◌, ◌%◌, ◌<◌, ◌≤◌, ◌^◌, Bool, true, false, not, ◌&&◌, ◌||◌, cond, ltb, leb, eqb, List, [], ◌∷◌, ◌++◌, Option, Some, None, Result, Ok, Err, length, map, replicate, get_or, refl, sym, ap, subst, ◌∙◌, append_assoc, arith, lit<}
+use Rattle.std.proofs.Common.{◌≡◌, ℕ, ◌*◌, ◌%◌, ◌<◌, ◌≤◌, ◌^◌, Bool, true, false, ◌&&◌, ltb, leb, List, [], ◌∷◌, ◌++◌, Option, None, Result, length, replicate, refl, ap, subst, append_assoc, arith, lit<}
 use Rattle.std.specs.Prelude.{decimal, codes}
-use Rattle.std.specs.List.{list_all, find}
+use Rattle.std.specs.List.{list_all}
 use Rattle.std.specs.Str.{bytes_eq}
 use Rattle.std.proofs.lemmas.Bool.{and_from, le-leb, lt-ltb, le-ltb, eq-eqb}
 use Rattle.std.proofs.lemmas.Fmt.{decimal_digit}
-use Rattle.bf_id.specs.Shape.{IsShape, root_count}
+use Rattle.bf_id.specs.Shape.{root_count}
 use Rattle.bf_case.specs.declared.case.Case.{Case}
-use Rattle.bf_case.specs.declared.case.Fill.{Fill}
 use Rattle.bf_case.specs.Case.{IsValid, cell_limit}
 use Rattle.bf_case.specs.CaseText.{line, head_text}
 use Rattle.bf_text.specs.declared.code.Refusal.{Refusal}
 use Rattle.bf_text.specs.declared.form.Range.{Range}
 use Rattle.bf_text.specs.declared.form.Form.TheVariants as form
-use Rattle.bf_text.specs.declared.head.Head.{Head}
 use Rattle.bf_text.specs.declared.outline.Outline.{Outline}
 use Rattle.bf_text.specs.Forms.{is_within, from_to, up_to, word_range}
 use Rattle.bf_text.specs.Drafts.{blank_outline, outline_with}

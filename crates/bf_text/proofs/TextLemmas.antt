@@ -1,19 +1,16 @@
 -- A line of canonical text, and what its words are.
-use Rattle.std.proofs.Common.{◌≡◌, ◌≢◌, ℕ, zero, suc, ◌+◌, ◌-◌, ◌<◌, ◌≤◌, ◌^◌, Bool, true, false, not, ◌&&◌, ◌||◌, cond, ltb, leb, eqb, List, [], ◌∷◌, ◌++◌, length, map, take, get_or, refl, sym, ap, subst, ◌∙◌, append_assoc, arith, length-append, rules, tests, lit<, ◌%◌}
-use Rattle.std.specs.Prelude.{decimal, codes}
+use Rattle.std.proofs.Common.{◌≡◌, ◌≢◌, ℕ, ◌+◌, ◌<◌, ◌≤◌, ◌^◌, Bool, true, false, not, ◌&&◌, ◌||◌, ltb, leb, eqb, List, [], ◌∷◌, ◌++◌, length, map, refl, ap, ◌∙◌, arith, rules, tests, lit<, ◌%◌}
+use Rattle.std.specs.Prelude.{decimal}
 use Rattle.std.specs.Char.{is_ascii_digit}
-use Rattle.std.specs.List.{list_all, filter, slice_split, before_first, position_or_len, onto_first}
-use Rattle.std.specs.Str.Lines.{strip_carriage_return}
+use Rattle.std.specs.List.{list_all, filter, slice_split, onto_first}
 use Rattle.std.specs.Str.Parse.{digits_value}
-use Rattle.std.proofs.lemmas.Bool.{and_parts, and_from, or_left, leb-true, ltb-true, ne_eqb, le-leb, lt-leb, eq-eqb}
+use Rattle.std.proofs.lemmas.Bool.{and_parts, and_from, leb-true, ltb-true, ne_eqb, le-leb}
 use Rattle.std.proofs.lemmas.Fmt.{decimal_by_steps, decimal_is_IsNumeral, length-decimal-le, decimal_nonempty}
-use Rattle.std.proofs.lemmas.List.{take_all, append-nil}
+use Rattle.std.proofs.lemmas.List.{append-nil}
 use Rattle.std.proofs.lemmas.List.Splits.{slice_split-cons_yes, slice_split-cons_no}
-use Rattle.std.proofs.lemmas.List.Sums.{AllPass-from_list_all, position_or_len_is}
-use Rattle.bf_case.specs.CaseText.{spaced, line}
-use Rattle.bf_text.specs.Lines.{is_feed, is_hash, is_blank, is_plain, is_some_word, without_empty_end, lines_of, content_of, words_of}
+use Rattle.bf_case.specs.CaseText.{spaced}
+use Rattle.bf_text.specs.Lines.{is_blank, is_plain, is_some_word, words_of}
 use Rattle.bf_text.specs.Entries.{is_number}
-use Rattle.bf_text.proofs.LineLemmas.{keep_split}
 
 -- a letter or a digit, among others: a byte of a word that begins no comment
 abbrev pub is_letter : ℕ → Bool
@@ -120,7 +117,7 @@ words_again w (n ∷ ns) some letters all =
     let parts = and_parts (ltb n (2 ^ 32)) (list_all (λ m. ltb m (2 ^ 32)) ns) all in
     let fits : n < 2 ^ 32 = ltb-true n (2 ^ 32) parts.0 in
     let more = words_again (decimal n) ns (decimal_nonempty n (omega arith))
-        (all_weaker is_ascii_digit is_letter digit_is_letter (decimal n) (digits_pass n (omega arith))) parts.1 in
+    (all_weaker is_ascii_digit is_letter digit_is_letter (decimal n) (digits_pass n (omega arith))) parts.1 in
     ap (filter is_some_word) (split_after is_blank is_letter letter_not_blank w 32 (decimal n ++ spaced ns) letters refl)
     ∙ rw (some_word w some) (ap (λ ws. w ∷ ws) more)
 

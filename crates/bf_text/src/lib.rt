@@ -9,6 +9,7 @@ mod code;
 mod draft;
 mod form;
 mod head;
+pub mod laws;
 mod lines;
 mod numbers;
 mod outline;
