@@ -8,3 +8,4 @@ pub mod SpreadLemmas
 pub mod OctantLemmas
 pub mod FillLemmas
 pub mod CellLemmas
+pub mod LevelLemmas

@@ -48,6 +48,40 @@ and-true true true e = (refl, refl)
 and-true true false e = (refl, e)
 and-true false b e = (e, absurd (false≢true e))
 
+-- a part of a list that is written
+pub part_written : (xs part : List ℕ) (a n k : ℕ) → a + n ≤ length xs → length part ≡ n
+    → get_or (put_mid a n xs part) k 0 ≡ cond (is_within a n k) (get_or part (k - a) 0) (get_or xs k 0)
+part_written xs part a n k fits len =
+    let rest = drop n (drop a xs) in
+    let front : length (take a xs) ≡ a = length-take-le a xs (omega arith) in
+    elim (cases_lt k a) [
+      | inl before ↦
+          let test = is_within-false_below a n k before in
+          rw test (get_or_append_left (take a xs) (part ++ rest) 0 k (omega arith) ∙ get_or-take a xs k 0 before)
+      | inr from ↦ elim (cases_lt k (a + n)) [
+        | inl inside ↦
+            let test = is_within-true a n k from inside in
+            rw test (get_or-append_right (take a xs) (part ++ rest) a k 0 front from ∙ get_or_append_left part rest 0 (k - a) (omega arith))
+        | inr past ↦
+            let test = is_within-false_above a n k past in
+            let back : a + (n + (k - a - n)) ≡ k = omega arith in
+            rw test (get_or-append_right (take a xs) (part ++ rest) a k 0 front from
+            ∙ get_or-append_right part rest n (k - a) 0 len (omega arith)
+            ∙ get_or-drop n (drop a xs) (k - a - n) 0 ∙ get_or-drop a xs (n + (k - a - n)) 0 ∙ ap (λ m. get_or xs m 0) back)
+      ]
+    ]
+
+-- what is known of the part's values where they were written
+pub within_part : (a n k m m' old : ℕ) → (k - a < n → m ≡ m') → cond (is_within a n k) m old ≡ cond (is_within a n k) m' old
+within_part a n k m m' old same =
+    elim (cases_lt k a) [
+      | inl before ↦ let test = is_within-false_below a n k before in rw test refl
+      | inr from ↦ elim (cases_lt k (a + n)) [
+        | inl inside ↦ let test = is_within-true a n k from inside in rw test (same (omega arith))
+        | inr past ↦ let test = is_within-false_above a n k past in rw test refl
+      ]
+    ]
+
 -- a row of a cube where it crosses a part: the part's cells are written, the others stay
 pub crossed : (side x0 y0 z0 y z n : ℕ) (values into part : List ℕ) → n ≡ side / 2 → x0 + side / 2 ≤ side
     → length into ≡ side → length part ≡ side / 2
@@ -58,29 +92,14 @@ pub crossed : (side x0 y0 z0 y z n : ℕ) (values into part : List ℕ) → n �
 unfolding part_mean_cell in_part
 crossed side x0 y0 z0 y z n values into part size fits full len across means k hk =
     let half = side / 2 in
-    let rest = drop n (drop x0 into) in
-    let front : length (take x0 into) ≡ x0 = length-take-le x0 into (omega arith) in
-    let wy = (and-true (is_within y0 half y) (is_within z0 half z) across).0 in
-    let wz = (and-true (is_within y0 half y) (is_within z0 half z) across).1 in
-    elim (cases_lt k x0) [
-      | inl before ↦
-          let wx = is_within-false_below x0 half k before in
-          rw (wx) (get_or_append_left (take x0 into) (part ++ rest) 0 k (omega arith) ∙ get_or-take x0 into k 0 before)
-      | inr from ↦ elim (cases_lt k (x0 + half)) [
-        | inl inside ↦
-            let wx = is_within-true x0 half k from inside in
-            let at : k - x0 < half = omega arith in
-            rw (wx, wy, wz) (get_or-append_right (take x0 into) (part ++ rest) x0 k 0 front from
-            ∙ get_or_append_left part rest 0 (k - x0) (omega arith) ∙ means (k - x0) at)
-        | inr past ↦
-            let wx = is_within-false_above x0 half k past in
-            let back : x0 + (n + (k - x0 - half)) ≡ k = omega arith in
-            rw (wx) (get_or-append_right (take x0 into) (part ++ rest) x0 k 0 front from
-            ∙ get_or-append_right part rest half (k - x0) 0 len (omega arith)
-            ∙ get_or-drop n (drop x0 into) (k - x0 - half) 0 ∙ get_or-drop x0 into (n + (k - x0 - half)) 0
-            ∙ ap (λ m. get_or into m 0) back)
-      ]
-    ]
+    let both = and-true (is_within y0 half y) (is_within z0 half z) across in
+    let wy = both.0 in
+    let wz = both.1 in
+    rw (size, wy, wz) (part_written into part x0 half k (omega arith) len ∙ within_part x0 half k _ _ _ (means (k - x0)) ∙ dropped (is_within x0 half k) _ _)
+  where
+    dropped : (b : Bool) (m n : ℕ) → cond b m n ≡ cond ((b && true) && true) m n
+    dropped true m n = refl
+    dropped false m n = refl
 
 and_none : (a b c : Bool) → (b && c) ≡ false → (a && b && c) ≡ false
 and_none true b c e = e

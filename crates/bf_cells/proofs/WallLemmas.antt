@@ -5,8 +5,8 @@ use Rattle.std.proofs.lemmas.List.{get_or_past, get_or-set_same, get_or-set_othe
 use Rattle.std.proofs.lemmas.List.Elements.{All-from_get_or}
 use Rattle.std.proofs.lemmas.Bool.{cases_lt, cases_eq}
 use Rattle.std.proofs.lemmas.Bool.Decides.{nat_tests}
-use Rattle.bf_cells.specs.Grid.{Grid, IsGrid}
-use Rattle.bf_cells.specs.Shell.{Walls, IsWall, IsShell, wall_of, with_wall, wall_place, wall_at, with_value, face_cell, face_values}
+use Rattle.bf_cells.specs.Grid.{Grid, IsGrid, grid_with}
+use Rattle.bf_cells.specs.Shell.{Walls, IsWall, IsShell, wall_of, with_wall, wall_place, wall_at, with_value, face_cell, face_values, square}
 use Rattle.bf_cells.proofs.PlaceLemmas.{row_place_below, row_place-mod, row_place-div, row_of_place}
 use Rattle.bf_cells.proofs.GridLemmas.{cell_small}
 
@@ -69,20 +69,39 @@ wall_at-with_value_other w n a b v m c d hn hm ha hc apart =
           place ∙ ap (λ l. get_or l (wall_place w.side c d) 0) (wall_of-with_wall_other w n m (set old at v) hn hm other)
     ]
 
--- a grid's own cells on a face
-pub length-face_values : (g : Grid) (n : ℕ) → length (face_values g n) ≡ g.side * g.side
-unfolding face_values
-length-face_values g n = length-map-range_with_len (λ k. face_cell g n (k % g.side) (k / g.side)) 0 (g.side * g.side)
+-- a square that is made of a function
+pub length-square : (s : ℕ) (f : ℕ → ℕ → ℕ) → length (square s f) ≡ s * s
+length-square s f = length-map-range_with_len (λ k. f (k % s) (k / s)) 0 (s * s)
 
+pub get_or-square : (s : ℕ) (f : ℕ → ℕ → ℕ) (a b : ℕ) → a < s → b < s → get_or (square s f) (wall_place s a b) 0 ≡ f a b
+get_or-square s f a b ha hb =
+    let k = wall_place s a b in
+    get_or-map-range_with_len (λ k. f (k % s) (k / s)) 0 (s * s) k k 0 (row_place_below s s a b ha hb) (zero-add k)
+    ∙ ap (λ c. f c (k / s)) (row_place-mod s a b ha) ∙ ap (f a) (row_place-div s a b ha)
+
+-- a full list with the values of a function is its square
+pub square_is : (s : ℕ) (f : ℕ → ℕ → ℕ) (wall : List ℕ) → length wall ≡ s * s
+    → ((a b : ℕ) → a < s → b < s → get_or wall (wall_place s a b) 0 ≡ f a b) → wall ≡ square s f
+square_is s f wall full values =
+    fill_by_all (λ k. f (k % s) (k / s)) wall (s * s) 0 full (λ k h.
+    let at = row_of_place s s k h in
+    ap (λ i. get_or wall i 0) (sym at.2) ∙ values (k % s) (k / s) at.0 at.1)
+
+-- a square of small values is a wall
+pub IsWall-square : (s : ℕ) (f : ℕ → ℕ → ℕ) → ((a b : ℕ) → f a b < 2 ^ 32) → IsWall s (square s f)
+IsWall-square s f small = record {
+  full = length-square s f;
+  small = All-from_get_or (λ v. v < 2 ^ 32) (square s f) 0 (λ k h.
+      let within : k < s * s = omega (arith, length-square s f) in
+      let made = get_or-map-range_with_len (λ k. f (k % s) (k / s)) 0 (s * s) k k 0 within (zero-add k) in
+      omega (arith, made, small (k % s) (k / s)));
+}
+
+-- a grid's own cells on a face
 pub get_or-face_values : (g : Grid) (n a b : ℕ) → a < g.side → b < g.side
     → get_or (face_values g n) (wall_place g.side a b) 0 ≡ face_cell g n a b
 unfolding face_values
-get_or-face_values g n a b ha hb =
-    let s = g.side in
-    let k = wall_place s a b in
-    let made = get_or-map-range_with_len (λ k. face_cell g n (k % s) (k / s)) 0 (s * s) k k 0
-    (row_place_below s s a b ha hb) (zero-add k) in
-    made ∙ ap (λ c. face_cell g n c (k / s)) (row_place-mod s a b ha) ∙ ap (face_cell g n a) (row_place-div s a b ha)
+get_or-face_values g n a b ha hb = get_or-square g.side (face_cell g n) a b ha hb
 
 pub face_cell_small : (g : Grid) → IsGrid g → (n a b : ℕ) → face_cell g n a b < 2 ^ 32
 unfolding face_cell
@@ -100,16 +119,8 @@ face_cell_small g valid n a b =
     )
 
 pub IsWall-face_values : (g : Grid) (n : ℕ) → IsGrid g → IsWall g.side (face_values g n)
-IsWall-face_values g n valid = record {
-  full = length-face_values g n;
-  small = All-from_get_or (λ v. v < 2 ^ 32) (face_values g n) 0 (λ k h.
-      let s = g.side in
-      let at = row_of_place s s k (omega (arith, length-face_values g n)) in
-      let is = get_or-face_values g n (k % s) (k / s) at.0 at.1 in
-      let here : get_or (face_values g n) k 0 ≡ face_cell g n (k % s) (k / s) =
-      ap (λ i. get_or (face_values g n) i 0) (sym at.2) ∙ is in
-      omega (arith, here, face_cell_small g valid n (k % s) (k / s)));
-}
+unfolding face_values
+IsWall-face_values g n valid = IsWall-square g.side (face_cell g n) (face_cell_small g valid n)
 
 -- each value of a full square has 32 bits; past the end it counts as 0
 pub wall_small : (side : ℕ) (wall : List ℕ) → IsWall side wall → (k : ℕ) → get_or wall k 0 < 2 ^ 32
@@ -123,29 +134,28 @@ wall_small side wall valid k =
 pub face_values_is : (g : Grid) (n : ℕ) (wall : List ℕ) → length wall ≡ g.side * g.side
     → ((a b : ℕ) → a < g.side → b < g.side → get_or wall (a + g.side * b) 0 ≡ face_cell g n a b) → wall ≡ face_values g n
 unfolding face_values
-face_values_is g n wall full cells =
-    let s = g.side in
-    fill_by_all (λ k. face_cell g n (k % s) (k / s)) wall (s * s) 0 full (λ k h.
-    let at = row_of_place s s k h in
-    ap (λ i. get_or wall i 0) (sym at.2) ∙ cells (k % s) (k / s) at.0 at.1)
+face_values_is g n wall full cells = square_is g.side (face_cell g n) wall full cells
 
--- a square that was copied from a grid's face, in walls that were full
-pub record IsFaced (old new : Walls) (n : ℕ) (g : Grid) (face : ℕ) : Type 0 where
-  pub is : new ≡ with_wall old n (face_values g face)
+-- a square that was laid in walls that were full
+pub record IsLaid (old new : Walls) (n : ℕ) (wall : List ℕ) : Type 0 where
+  pub is : new ≡ with_wall old n wall
   pub full : IsShell new
 
+pub laid : (old : Walls) (n : ℕ) (wall : List ℕ) (with : List ℕ → Walls) (items : List ℕ) → ((l : List ℕ) → with l ≡ with_wall old n l)
+    → IsShell old → IsWall old.side wall → items ≡ wall → IsLaid old (with items) n wall
+laid old n wall with items is valid full same =
+    let whole : with items ≡ with_wall old n wall = ap with same ∙ is wall in
+    record { is = whole; full = subst IsShell (sym whole) (IsShell-with_wall old n wall valid full) }
+
+-- a grid by the numbers that were read
+pub read_grid : (g : Grid) (side of : ℕ) (values : List ℕ) → g.side ≡ of → side ≡ of → values ≡ g.values → grid_with side values ≡ g
+read_grid g side of values sides side_is values_are = ap (λ s. grid_with s values) (side_is ∙ sym sides) ∙ ap (grid_with g.side) values_are
+
+-- a square that was copied from a grid's face
 pub faced : (old : Walls) (n : ℕ) (g : Grid) (face : ℕ) (with : List ℕ → Walls) (side : ℕ) (values written items : List ℕ)
     → ((wall : List ℕ) → with wall ≡ with_wall old n wall)
     → IsShell old → IsGrid g → g.side ≡ old.side → side ≡ old.side → values ≡ g.values
-    → written ≡ face_values (record { side = side; values = values }) face → items ≡ written → IsFaced old (with items) n g face
+    → written ≡ face_values (grid_with side values) face → items ≡ written → IsLaid old (with items) n (face_values g face)
 faced old n g face with side values written items is valid grid sides side_is values_are copied kept =
-    let grid_with : ℕ → List ℕ → Grid = λ s v. record { side = s; values = v } in
-    let source : grid_with side values ≡ g = ap (λ s. grid_with s values) (side_is ∙ sym sides) ∙ ap (grid_with g.side) values_are in
-    let wall : items ≡ face_values g face = kept ∙ copied ∙ ap (λ h. face_values h face) source in
-    let whole : with items ≡ with_wall old n (face_values g face) = ap with wall ∙ is (face_values g face) in
-    let Full : ℕ → Type 0 = λ s. IsWall s (face_values g face) in
-    record {
-      is = whole;
-      full = subst IsShell (sym whole)
-          (IsShell-with_wall old n (face_values g face) valid (subst Full sides (IsWall-face_values g face grid)));
-    }
+    laid old n (face_values g face) with items is valid (subst (λ s. IsWall s (face_values g face)) sides (IsWall-face_values g face grid))
+    (kept ∙ copied ∙ ap (λ h. face_values h face) (read_grid g side old.side values sides side_is values_are))

@@ -4,3 +4,4 @@ pub mod ShellFields
 pub mod Kernel
 pub mod Rows
 pub mod Octant
+pub mod Levels

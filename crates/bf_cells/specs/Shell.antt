@@ -83,6 +83,10 @@ face_cell g face a b =
     else (if face == 4 then cell_at g a b 0
     else cell_at g a b (g.side - 1)))))
 
+-- the square whose value at a, b is f a b
+abbrev pub square : ℕ → (ℕ → ℕ → ℕ) → List ℕ
+square side f = map (λ k. f (k % side) (k / side)) (range_with_len 0 (side * side))
+
 -- a grid's own cells on its face, as a square
 unfoldable pub face_values : Grid → ℕ → List ℕ
-face_values g face = map (λ k. face_cell g face (k % g.side) (k / g.side)) (range_with_len 0 (g.side * g.side))
+face_values g face = square g.side (face_cell g face)

@@ -1,5 +1,5 @@
 ghost use Rattle.std.specs.Prelude.{◌≡◌, ◌+◌, ◌*◌, ◌%◌, ◌<◌, ◌≤◌, length, IfOk};
-ghost use Rattle.bf_cells.specs.Grid.{IsGrid, cell_at, filled_with, with_cell, with_row, spread_of};
+ghost use Rattle.bf_cells.specs.Grid.{IsGrid, grid_with, cell_at, filled_with, with_cell, with_row, spread_of};
 ghost use Rattle.bf_cells.specs.Kernel.{relaxed_grid};
 ghost use Rattle.bf_cells.specs.Octant.{octant_copy_of, with_octant_mean};
 
@@ -81,6 +81,15 @@ impl Cells {
         ensures valid { IsGrid self.now }
     {
         self.values.as_slice()
+    }
+
+    /// Gives all cells other values, x fastest, then y, then z.
+    pub fn load(&mut self, values: &[u32])
+        requires { length values.now ≡ self.old.side * self.old.side * self.old.side }
+        ensures cells { self.new ≡ grid_with self.old.side values.now }
+        ensures side { self.new.side ≡ self.old.side }
+    {
+        self.values.as_mut_slice().copy_from_slice(values);
     }
 
     /// Cells of the same values.

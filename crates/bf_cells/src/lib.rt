@@ -8,6 +8,7 @@ mod cells;
 mod cubes;
 mod extremes;
 mod faces;
+mod levels;
 mod octants;
 mod pieces;
 mod places;

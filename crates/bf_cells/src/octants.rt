@@ -6,7 +6,7 @@ use crate::pieces::piece;
 
 // Each value of a row, twice.
 #[inline]
-fn double_row(source: &[u32], into: &mut [u32])
+pub(crate) fn double_row(source: &[u32], into: &mut [u32])
     requires { length into.old ≤ 2 * length source.now }
     ensures { (k : ℕ) → k < length into.new → slice_index into.new k ≡ slice_index source.now (k / 2) }
 {
@@ -85,7 +85,26 @@ fn pair_sum(row: &[u32], k: usize) -> u64
     u64::from(row[2 * k]) + u64::from(row[2 * k + 1])
 }
 
-// The means of a row of cubes of eight cells, whose four rows go by y and then by z.
+// The mean of a cube of eight cells, whose four rows go by y and then by z.
+#[inline]
+pub(crate) fn mean_of_pairs(
+    first: &[u32],
+    second: &[u32],
+    third: &[u32],
+    fourth: &[u32],
+    k: usize,
+) -> u32
+    requires first { 2 * k + 1 < length first.now }
+    requires second { 2 * k + 1 < length second.now }
+    requires third { 2 * k + 1 < length third.now }
+    requires fourth { 2 * k + 1 < length fourth.now }
+    ensures { result ≡ mean_of_rows first.now second.now third.now fourth.now k }
+{
+    let sum = pair_sum(first, k) + pair_sum(second, k) + pair_sum(third, k) + pair_sum(fourth, k);
+    (sum / 8) as u32
+}
+
+// The means of a row of such cubes.
 #[inline]
 fn mean_rows(first: &[u32], second: &[u32], third: &[u32], fourth: &[u32], into: &mut [u32])
     requires first { 2 * length into.old ≤ length first.now }
@@ -96,17 +115,13 @@ fn mean_rows(first: &[u32], second: &[u32], third: &[u32], fourth: &[u32], into:
         → slice_index into.new k ≡ mean_of_rows first.now second.now third.now fourth.now k }
 {
     for (k, value) in into.iter_mut().enumerate() {
-        let sum = pair_sum(first, k)
-            + pair_sum(second, k)
-            + pair_sum(third, k)
-            + pair_sum(fourth, k);
-        *value = (sum / 8) as u32;
+        *value = mean_of_pairs(first, second, third, fourth, k);
     }
 }
 
 // The means of the cubes of eight cells of one y and z, which count such cubes.
 #[inline]
-fn mean_cells(values: &[u32], side: usize, y: usize, z: usize, into: &mut [u32])
+pub(crate) fn mean_cells(values: &[u32], side: usize, y: usize, z: usize, into: &mut [u32])
     requires even { side % 2 ≡ 0 }
     requires high { side ≤ 16 }
     requires y_below { y < side / 2 }
@@ -126,7 +141,7 @@ fn mean_cells(values: &[u32], side: usize, y: usize, z: usize, into: &mut [u32])
 
 // Whether a number is one of `count` from `low` on.
 #[inline]
-fn has(low: usize, count: usize, at: usize) -> bool
+pub(crate) fn has(low: usize, count: usize, at: usize) -> bool
     requires { low + count ≤ 16 }
     ensures { result ≡ is_within low count at }
 {

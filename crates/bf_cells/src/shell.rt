@@ -1,10 +1,12 @@
 ghost use Rattle.std.specs.Prelude.{◌≡◌, ◌+◌, ◌*◌, ◌%◌, ◌<◌, ◌≤◌, length, IfOk};
-ghost use Rattle.bf_cells.specs.Shell.{IsShell, blank_walls, with_value, with_wall, face_values};
+ghost use Rattle.bf_cells.specs.Shell.{IsShell, blank_walls, with_value, with_wall, wall_of, face_values};
+ghost use Rattle.bf_cells.specs.Levels.{doubled_face, face_mean, with_quarter};
 
 use crate::Memory;
 use crate::cells::Cells;
 use crate::cubes::Cube;
 use crate::faces::copy_face;
+use crate::levels::{double_face, mean_quarter};
 use crate::places::square_place;
 use std::alloc::Global;
 use std::marker::Model;
@@ -99,6 +101,71 @@ impl Shell {
             3 => copy_face(values, side, of_face, self.y_high.as_mut_slice()),
             4 => copy_face(values, side, of_face, self.z_low.as_mut_slice()),
             _ => copy_face(values, side, of_face, self.z_high.as_mut_slice()),
+        }
+    }
+
+    /// Makes the square of a face hold a quarter of a face of cells one level coarser, each value at four places. The quarter is
+    /// told by its half along each of the face's two axes, in the order x, y, z: 0 is the low one, and 1 the high one.
+    pub fn set_wall_doubled(
+        &mut self,
+        face: u32,
+        cells: &Cells,
+        of_face: u32,
+        half_a: u32,
+        half_b: u32,
+    )
+        requires face { face < 6 }
+        requires of_face { of_face < 6 }
+        requires half_a { half_a < 2 }
+        requires half_b { half_b < 2 }
+        requires sides { cells.now.side ≡ self.old.side }
+        ensures values { self.new ≡ with_wall self.old face (doubled_face cells.now of_face half_a half_b) }
+        ensures side { self.new.side ≡ self.old.side }
+    {
+        let side = self.side as usize;
+        let values = cells.values();
+        let a = half_a as usize;
+        let b = half_b as usize;
+        match face {
+            0 => double_face(values, side, of_face, a, b, self.x_low.as_mut_slice()),
+            1 => double_face(values, side, of_face, a, b, self.x_high.as_mut_slice()),
+            2 => double_face(values, side, of_face, a, b, self.y_low.as_mut_slice()),
+            3 => double_face(values, side, of_face, a, b, self.y_high.as_mut_slice()),
+            4 => double_face(values, side, of_face, a, b, self.z_low.as_mut_slice()),
+            _ => double_face(values, side, of_face, a, b, self.z_high.as_mut_slice()),
+        }
+    }
+
+    /// Writes into a quarter of a face's square the means, rounded down, of each eight cells that form a cube next to a face of
+    /// cells one level finer. The quarter is told by its halves, as in [`Shell::set_wall_doubled`].
+    pub fn set_quarter_means(
+        &mut self,
+        face: u32,
+        half_a: u32,
+        half_b: u32,
+        cells: &Cells,
+        of_face: u32,
+    )
+        requires face { face < 6 }
+        requires half_a { half_a < 2 }
+        requires half_b { half_b < 2 }
+        requires of_face { of_face < 6 }
+        requires sides { cells.now.side ≡ self.old.side }
+        ensures values { self.new
+            ≡ with_wall self.old face (with_quarter self.old.side half_a half_b (face_mean cells.now of_face) (wall_of self.old face)) }
+        ensures side { self.new.side ≡ self.old.side }
+    {
+        let side = self.side as usize;
+        let values = cells.values();
+        let a = half_a as usize;
+        let b = half_b as usize;
+        match face {
+            0 => mean_quarter(values, side, of_face, a, b, self.x_low.as_mut_slice()),
+            1 => mean_quarter(values, side, of_face, a, b, self.x_high.as_mut_slice()),
+            2 => mean_quarter(values, side, of_face, a, b, self.y_low.as_mut_slice()),
+            3 => mean_quarter(values, side, of_face, a, b, self.y_high.as_mut_slice()),
+            4 => mean_quarter(values, side, of_face, a, b, self.z_low.as_mut_slice()),
+            _ => mean_quarter(values, side, of_face, a, b, self.z_high.as_mut_slice()),
         }
     }
 

@@ -62,3 +62,74 @@ fn a_wall_counts_once(rt: HostRuntime) -> Result<(), Fail> {
     assert_eq!(rt; next.values(), [0, 0, 0, 10, 0, 0, 0, 0].as_slice());
     Ok(())
 }
+
+// Cells of side 4 whose values rise by 8 from one to the next.
+fn rising(alloc: Global) -> Result<Cells, Memory>
+    ensures { IfOk result (λ c. c.side ≡ 4) }
+{
+    let mut cells = Cells::filled(alloc, 4, 0)?;
+    for k in 0..64 {
+        cells.put(k % 4, k / 4 % 4, k / 16, 8 * k);
+    }
+    Ok(cells)
+}
+
+#[test]
+fn a_coarser_face_is_doubled(rt: HostRuntime) -> Result<(), Fail> {
+    let cells = Cells::filled(rt.alloc(), 4, 0)?;
+    let coarser = rising(rt.alloc())?;
+    let mut next = cells.copy()?;
+    let mut shell = Shell::blank(rt.alloc(), 4)?;
+    shell.set_wall_doubled(0, &coarser, 1, 1, 0);
+    cells.kernel(&shell, &mut next);
+    let first = [
+        next.get(0, 0, 0),
+        next.get(0, 1, 0),
+        next.get(0, 2, 0),
+        next.get(0, 3, 0),
+    ];
+    let third = [
+        next.get(0, 0, 2),
+        next.get(0, 1, 2),
+        next.get(0, 2, 3),
+        next.get(0, 3, 3),
+    ];
+    assert_eq!(rt; first, [11, 11, 15, 15]);
+    assert_eq!(rt; third, [27, 27, 31, 31]);
+    assert_eq!(rt; next.get(1, 0, 0), 0);
+    Ok(())
+}
+
+#[test]
+fn a_finer_face_is_averaged(rt: HostRuntime) -> Result<(), Fail> {
+    let cells = Cells::filled(rt.alloc(), 4, 0)?;
+    let finer = rising(rt.alloc())?;
+    let mut next = cells.copy()?;
+    let mut shell = Shell::blank(rt.alloc(), 4)?;
+    shell.set_quarter_means(2, 1, 1, &finer, 3);
+    cells.kernel(&shell, &mut next);
+    let inside = [
+        next.get(2, 0, 2),
+        next.get(3, 0, 2),
+        next.get(2, 0, 3),
+        next.get(3, 0, 3),
+    ];
+    let beside = [
+        next.get(1, 0, 2),
+        next.get(2, 0, 1),
+        next.get(2, 1, 2),
+        next.get(2, 3, 2),
+    ];
+    assert_eq!(rt; inside, [18, 20, 50, 52]);
+    assert_eq!(rt; beside, [0; 4]);
+    Ok(())
+}
+
+#[test]
+fn values_are_loaded(rt: HostRuntime) -> Result<(), Fail> {
+    let mut cells = Cells::filled(rt.alloc(), 2, 9)?;
+    cells.load([1, 2, 3, 4, 5, 6, 7, 8].as_slice());
+    assert_eq!(rt; cells.get(1, 0, 0), 2);
+    assert_eq!(rt; cells.get(0, 1, 1), 7);
+    Ok(())
+}

@@ -37,8 +37,9 @@ use std::marker::Model;
 #[derive(Clone, Copy, Debug)]
 pub struct Id {
     root: u32,
-    level: u32,
-    digits: [u32; 4],
+    // Single bytes, since a map has an id for each of its leaves, however few cells a leaf has.
+    level: u8,
+    digits: [u8; 4],
 }
 
 impl Model for Id {
@@ -118,7 +119,7 @@ impl Id {
         requires octal { octant < 8 }
         ensures { result ≡ child_of self octant }
     {
-        self.digits[self.level as usize] = octant;
+        self.digits[self.level as usize] = octant as u8;
         self.level += 1;
         self
     }
@@ -145,7 +146,7 @@ impl Id {
         if self.level == 0 {
             return None;
         }
-        Some(self.digits[self.level as usize - 1])
+        Some(u32::from(self.digits[self.level as usize - 1]))
     }
 
     /// How many levels below its root the block lies, which is at most 4.
@@ -153,7 +154,7 @@ impl Id {
         ensures level { result ≡ level_of self }
         ensures valid { IsId self }
     {
-        self.level
+        u32::from(self.level)
     }
 
     pub fn root(self) -> u32
@@ -163,7 +164,7 @@ impl Id {
     }
 
     /// The octants from the root down.
-    pub fn octants(&self) -> &[u32]
+    pub fn octants(&self) -> &[u8]
         ensures octants { result.now ≡ self.now.digits }
         ensures valid { IsId self.now }
     {

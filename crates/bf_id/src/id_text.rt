@@ -60,7 +60,7 @@ impl IdText {
     }
 
     /// Nothing for a root; else a full stop, and a digit for each octant.
-    pub(crate) fn push_octants(&mut self, octants: &[u32])
+    pub(crate) fn push_octants(&mut self, octants: &[u8])
         requires room { length self.old + length octants.now < 15 }
         requires octal { All (λ octant. octant < 8) octants.now }
         ensures { self.new ≡ self.old ++ octants_text octants.now }
@@ -71,13 +71,13 @@ impl IdText {
         }
     }
 
-    fn push_digits(&mut self, octants: &[u32])
+    fn push_digits(&mut self, octants: &[u8])
         requires room { length self.old + length octants.now ≤ 15 }
         requires octal { All (λ octant. octant < 8) octants.now }
         ensures { self.new ≡ self.old ++ octant_digits octants.now }
     {
         for octant in octants {
-            self.push(b'0' + *octant as u8);
+            self.push(b'0' + *octant);
         }
     }
 }

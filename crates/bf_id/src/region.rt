@@ -59,13 +59,13 @@ impl Region {
     }
 
     /// The cube halved once for each octant in turn.
-    pub(crate) fn narrowed(self, octants: &[u32]) -> Region
+    pub(crate) fn narrowed(self, octants: &[u8]) -> Region
         requires { All (λ octant. octant < 8) octants.now }
         ensures { result ≡ narrowed self octants.now }
     {
         let mut cube = self;
         for octant in octants {
-            cube = cube.halved(*octant);
+            cube = cube.halved(u32::from(*octant));
         }
         cube
     }

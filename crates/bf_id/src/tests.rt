@@ -1,7 +1,7 @@
 use crate::{Face, Id, Shape};
 use std::process::Abort;
 
-fn assert_spells(rt: &impl Abort, text: &str, root: u32, octants: &[u32]) {
+fn assert_spells(rt: &impl Abort, text: &str, root: u32, octants: &[u8]) {
     match Id::parse(text) {
         Some(id) => {
             assert_eq!(rt; id.root(), root);

@@ -2,13 +2,13 @@
 use Rattle.std.proofs.Common.{arith, ◌≡◌, ◌∙◌, ℕ, ap, refl, subst}
 use Rattle.std.specs.Vec.{with_items}
 use Rattle.std.proofs.lemmas.List.{with_items_is}
-use Rattle.bf_cells.specs.Shell.{Walls, IsShell, with_wall}
+use Rattle.bf_cells.specs.Shell.{Walls, IsShell, with_wall, face_values}
 use Rattle.bf_cells.specs.ShellFields.{walls_in}
-use Rattle.bf_cells.proofs.WallLemmas.{IsFaced, faced}
+use Rattle.bf_cells.proofs.WallLemmas.{IsLaid, faced}
 use Rattle.bf_cells.proofs.shell.Shell.set_wall.Goals as goal
 
 x_low_faced : (c : goal.After-self-1)
-    → IsFaced c.args.self.now (record (walls_in c.self.inside) { x_low = (with_items c.self.inside.x_low c.copy_face.new.into).items }) c.args.face c.args.cells.now c.args.of_face
+    → IsLaid c.args.self.now (record (walls_in c.self.inside) { x_low = (with_items c.self.inside.x_low c.copy_face.new.into).items }) c.args.face (face_values c.args.cells.now c.args.of_face)
 unfolding with_wall
 x_low_faced c =
     let side : Walls → ℕ = λ w. w.side in
@@ -25,7 +25,7 @@ pub returns-in-0-clause-values : goal.returns-in-0-clause-values
 returns-in-0-clause-values c = (x_low_faced c).is
 
 x_high_faced : (c : goal.After-self-in-1-1)
-    → IsFaced c.args.self.now (record (walls_in c.self.inside) { x_high = (with_items c.self.inside.x_high c.copy_face-in-1.new.into).items }) c.args.face c.args.cells.now c.args.of_face
+    → IsLaid c.args.self.now (record (walls_in c.self.inside) { x_high = (with_items c.self.inside.x_high c.copy_face-in-1.new.into).items }) c.args.face (face_values c.args.cells.now c.args.of_face)
 unfolding with_wall
 x_high_faced c =
     let side : Walls → ℕ = λ w. w.side in
@@ -42,7 +42,7 @@ pub returns-in-1-clause-values : goal.returns-in-1-clause-values
 returns-in-1-clause-values c = (x_high_faced c).is
 
 y_low_faced : (c : goal.After-self-in-2-1)
-    → IsFaced c.args.self.now (record (walls_in c.self.inside) { y_low = (with_items c.self.inside.y_low c.copy_face-in-2.new.into).items }) c.args.face c.args.cells.now c.args.of_face
+    → IsLaid c.args.self.now (record (walls_in c.self.inside) { y_low = (with_items c.self.inside.y_low c.copy_face-in-2.new.into).items }) c.args.face (face_values c.args.cells.now c.args.of_face)
 unfolding with_wall
 y_low_faced c =
     let side : Walls → ℕ = λ w. w.side in
@@ -59,7 +59,7 @@ pub returns-in-2-clause-values : goal.returns-in-2-clause-values
 returns-in-2-clause-values c = (y_low_faced c).is
 
 y_high_faced : (c : goal.After-self-in-3-1)
-    → IsFaced c.args.self.now (record (walls_in c.self.inside) { y_high = (with_items c.self.inside.y_high c.copy_face-in-3.new.into).items }) c.args.face c.args.cells.now c.args.of_face
+    → IsLaid c.args.self.now (record (walls_in c.self.inside) { y_high = (with_items c.self.inside.y_high c.copy_face-in-3.new.into).items }) c.args.face (face_values c.args.cells.now c.args.of_face)
 unfolding with_wall
 y_high_faced c =
     let side : Walls → ℕ = λ w. w.side in
@@ -76,7 +76,7 @@ pub returns-in-3-clause-values : goal.returns-in-3-clause-values
 returns-in-3-clause-values c = (y_high_faced c).is
 
 z_low_faced : (c : goal.After-self-in-4-1)
-    → IsFaced c.args.self.now (record (walls_in c.self.inside) { z_low = (with_items c.self.inside.z_low c.copy_face-in-4.new.into).items }) c.args.face c.args.cells.now c.args.of_face
+    → IsLaid c.args.self.now (record (walls_in c.self.inside) { z_low = (with_items c.self.inside.z_low c.copy_face-in-4.new.into).items }) c.args.face (face_values c.args.cells.now c.args.of_face)
 unfolding with_wall
 z_low_faced c =
     let side : Walls → ℕ = λ w. w.side in
@@ -93,7 +93,7 @@ pub returns-in-4-clause-values : goal.returns-in-4-clause-values
 returns-in-4-clause-values c = (z_low_faced c).is
 
 z_high_faced : (c : goal.After-self-in_default-1)
-    → IsFaced c.args.self.now (record (walls_in c.self.inside) { z_high = (with_items c.self.inside.z_high c.copy_face-in_default.new.into).items }) c.args.face c.args.cells.now c.args.of_face
+    → IsLaid c.args.self.now (record (walls_in c.self.inside) { z_high = (with_items c.self.inside.z_high c.copy_face-in_default.new.into).items }) c.args.face (face_values c.args.cells.now c.args.of_face)
 unfolding with_wall
 z_high_faced c =
     let side : Walls → ℕ = λ w. w.side in

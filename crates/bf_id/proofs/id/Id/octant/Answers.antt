@@ -7,4 +7,4 @@ pub returns-clause-some : goal.returns-clause-some
 returns-clause-some c =
     let s = c.self.inside in
     let octant : BlockId → ℕ = octant_of in
-    shown_octant s.root s.level s.digits (omega arith) (omega arith) ∙ ap octant c.self.view_is
+    c.from.ensures ∙ shown_octant s.root s.level s.digits (omega arith) (omega arith) ∙ ap octant c.self.view_is

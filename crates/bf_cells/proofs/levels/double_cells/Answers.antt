@@ -1,0 +1,17 @@
+use Rattle.std.proofs.Common.{arith, ◌<◌, ◌+◌, ◌/◌, ◌∙◌}
+use Rattle.std.proofs.lemmas.List.Edits.{get_or-between}
+use Rattle.bf_cells.proofs.OctantLemmas.{half_below}
+use Rattle.bf_cells.proofs.PlaceLemmas.{cube_row_fits}
+use Rattle.bf_cells.proofs.levels.double_cells.Goals as goal
+
+pub piece-source-requires : goal.piece-source-requires
+piece-source-requires c = cube_row_fits c.args.side c.args.y c.args.z _ c.requires.values c.requires.y_below c.requires.z_below
+
+pub returns : goal.returns
+returns c k hk =
+    let a = c.args in
+    let r = c.requires in
+    let inside : a.x0 + k / 2 < a.x0 + a.side / 2 = omega arith in
+    c.double_row.ensures k (omega arith)
+    ∙ get_or-between c.piece-source.result.now a.x0 (a.x0 + a.side / 2) (k / 2) 0 inside
+    ∙ c.piece-source.ensures.cells (a.x0 + k / 2) (half_below a.side a.x0 k r.even r.x_fits hk)
