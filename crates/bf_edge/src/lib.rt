@@ -9,6 +9,7 @@
 mod counts;
 mod mem_sink;
 mod mem_source;
+mod page;
 mod sink;
 mod source;
 mod standard;
@@ -18,6 +19,7 @@ mod tests;
 pub use counts::Failed;
 pub use mem_sink::MemSink;
 pub use mem_source::MemSource;
+pub use page::{PAGE_SIZE, Page, flush, put, put_number, put_numbers};
 pub use sink::{Sink, write_all};
 pub use source::{ReadEnd, Source, read_up_to};
 pub use standard::{StdSink, StdSource};

@@ -9,7 +9,6 @@ use Rattle.bf_case.specs.declared.case.Case.{Case}
 use Rattle.bf_case.specs.declared.case.Fill.{Fill}
 use Rattle.bf_case.specs.Case.{IsValid, IsFill, IsSized}
 use Rattle.bf_case.specs.CaseText.{line, fill_text, death_text, order_text, case_text}
-use Rattle.bf_case.specs.Reading.{input_limit}
 use Rattle.bf_text.specs.declared.code.Refusal.{Refusal}
 use Rattle.bf_text.specs.declared.code.Code.TheVariants as code
 use Rattle.bf_text.specs.declared.form.Form.TheVariants as form
@@ -17,7 +16,7 @@ use Rattle.bf_text.specs.declared.head.Head.{Head}
 use Rattle.bf_text.specs.Lines.{lines_of}
 use Rattle.bf_text.specs.Forms.{is_within, word_range}
 use Rattle.bf_text.specs.Entries.{came, fills_of, order_of, deaths_of, death_of, listed, fill_of, case_with, case_of}
-use Rattle.bf_text.specs.Reading.{refusal, reading_of_lines, reading}
+use Rattle.bf_text.specs.Reading.{input_limit, refusal, reading_of_lines, reading}
 use Rattle.bf_text.specs.Drafts.{blank_outline}
 use Rattle.bf_text.proofs.RangeLemmas.{flat_same}
 use Rattle.bf_text.proofs.AgreeLemmas.{agrees_blank}

@@ -62,7 +62,7 @@ pub sound_goes_on : (last : ℕ) (before : List Entry) (e : Entry) (es : List En
 unfolding reading_after
 sound_goes_on last before e es none = ap (λ c. refused_or e.line c (reading_after last (e ∷ before) es)) none
 
-fault_ends : (last : ℕ) (before : List Entry) (e : Entry) (es : List Entry) (cause : Code) → cause_of (known_of before) e ≡ Some cause
+pub fault_ends : (last : ℕ) (before : List Entry) (e : Entry) (es : List Entry) (cause : Code) → cause_of (known_of before) e ≡ Some cause
     → reading_after last before (e ∷ es) ≡ Err (refusal e.line cause)
 unfolding reading_after
 fault_ends last before e es cause some = ap (λ c. refused_or e.line c (reading_after last (e ∷ before) es)) some

@@ -4,9 +4,8 @@ use Rattle.std.specs.Prelude.{codes, flat_map, slice_set}
 use Rattle.bf_case.specs.declared.case.Case.{Case}
 use Rattle.bf_case.specs.declared.case.Fill.{Fill}
 use Rattle.bf_text.specs.declared.code.Code.TheVariants as code
-use Rattle.bf_case.specs.Reading.{input_limit}
 use Rattle.std.proofs.lemmas.Bool.{lt-ltb}
-use Rattle.bf_text.specs.Reading.{reading_after, refusal, reading}
+use Rattle.bf_text.specs.Reading.{input_limit, reading_after, refusal, reading}
 
 -- ---- texts
 

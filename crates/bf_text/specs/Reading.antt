@@ -1,7 +1,6 @@
 -- What bytes spell: a case, or a refusal.
 use Rattle.std.specs.Prelude.{◌≡◌, ℕ, ◌+◌, nat_lt, if◌then◌else◌, List, [], ◌∷◌, length, Option, Some, None, Result, Ok, Err}
 use Rattle.bf_case.specs.declared.case.Case.{Case}
-use Rattle.bf_case.specs.Reading.{input_limit}
 use Rattle.bf_text.specs.declared.code.Code.{Code}
 use Rattle.bf_text.specs.declared.code.Code.TheVariants as code
 use Rattle.bf_text.specs.declared.code.Refusal.{Refusal}
@@ -11,6 +10,10 @@ use Rattle.bf_text.specs.declared.form.Form.TheVariants as form
 use Rattle.bf_text.specs.Lines.{lines_of}
 use Rattle.bf_text.specs.Entries.{Entry, entries_from, came, case_of}
 use Rattle.bf_text.specs.Faults.{known_of, cause_of}
+
+-- the greatest length of an input, in bytes
+abbrev pub input_limit : ℕ
+input_limit = 1048576
 
 abbrev pub refusal : ℕ → Code → Refusal
 refusal line cause = record { line = line; code = cause }

@@ -1,8 +1,7 @@
 //! Reading a case.
 ghost use Rattle.std.specs.Prelude.{◌≤◌, length};
-ghost use Rattle.bf_case.specs.Reading.{input_limit};
 ghost use Rattle.bf_text.specs.Lines.{lines_of};
-ghost use Rattle.bf_text.specs.Reading.{reading, reading_of_lines, IsReadingOf};
+ghost use Rattle.bf_text.specs.Reading.{input_limit, reading, reading_of_lines, IsReadingOf};
 
 use crate::code::{CaseFault, Code};
 use crate::draft::{Draft, refused};

@@ -203,6 +203,9 @@ fn a_case_is_written(rt: HostRuntime) -> Result<(), Fail> {
     assert!(rt; write_case(&case, &mut sink).is_ok());
     let want = format!(in alloc; "{head}{tail}{CANONICAL}")?;
     assert_eq!(rt; sink.written(), want.as_bytes());
+    // A short text is one page, and the sink's second call would fail.
+    let mut once = MemSink::new(alloc, 1000, 1000, [2].to_vec(alloc)?)?;
+    assert!(rt; write_case(&case, &mut once).is_ok());
     let mut failing = MemSink::new(alloc, 1, 10, Vec::new(alloc))?;
     assert!(rt; write_case(&case, &mut failing).is_err());
     assert_eq!(rt; failing.written(), b"forest 1\nr".as_slice());
