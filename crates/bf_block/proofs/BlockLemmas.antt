@@ -11,8 +11,8 @@ use Rattle.bf_case.specs.Map.{Leaf, cells_at, ids_of, HasCells, IsMap}
 use Rattle.bf_case.specs.Model.{filled_root, model, model_at}
 use Rattle.bf_case.proofs.LookupLemmas.{cells_at-initial, leaf_from_cells_at}
 use Rattle.bf_case.proofs.ListLemmas.{Contains-map}
-use Rattle.bf_block.specs.Runs.{CanRun}
-use Rattle.bf_block.specs.Around.{HoldSamples}
+use Rattle.bf_block.specs.Runs.{never_refines, CanRun}
+use Rattle.bf_case.specs.Beside.{HoldSamples}
 use Rattle.bf_block.specs.Block.{BlockValue, IsModels, after_regrid, before_regrid, map_at, kept_block, stepped_block}
 use Rattle.bf_case.proofs.MapLemmas.{IsRootMap-model}
 use Rattle.bf_block.proofs.Steps.{kept_leaf, model_regridded, stepped_leaf}
@@ -47,7 +47,7 @@ initial_is_models c filled shared root id cells same also runs below named made 
     let valid = subst (λ (k : Case). CanRun k) same runs in
     rw (also, named, made, same) (record { leaf = cells_at-initial c root valid.valid below })
 
--- a regrid of one level keeps each block
+-- the regrid of its time keeps each block
 pub kept_id : (b : BlockValue) → CanRun b.case → IsModels b → b.point.regridded ≡ false → Contains (ids_of (map_at b.case (after_regrid b.point.time))) b.id
 kept_id b runs is fresh =
     Contains-map (λ (leaf : Leaf). leaf.0) (map_at b.case (after_regrid b.point.time)) (b.id, b.cells)
@@ -61,6 +61,6 @@ block_side b whole same runs is =
     ∙ ap (λ (v : BlockValue). v.case.side) same
   where
     at_point : (after : Bool) → IsMap b.case.roots b.case.side (model_at b.case b.point.time after)
-    at_point false = (IsRootMap-model b.case b.point.time runs.valid runs.one_level).map
+    at_point false = (IsRootMap-model b.case b.point.time runs.valid (never_refines runs)).map
     at_point true =
-        subst (IsMap b.case.roots b.case.side) (sym (model_regridded b.case b.point.time runs)) (IsRootMap-model b.case b.point.time runs.valid runs.one_level).map
+        subst (IsMap b.case.roots b.case.side) (sym (model_regridded b.case b.point.time runs)) (IsRootMap-model b.case b.point.time runs.valid (never_refines runs)).map

@@ -1,4 +1,3 @@
-pub mod Axis
 pub mod Steps
 pub mod BlockLemmas
 pub mod Walls

@@ -16,8 +16,8 @@ use Rattle.bf_case.specs.Sample.{cell_corner, sample}
 use Rattle.bf_case.proofs.Axis.{choose-same}
 use Rattle.bf_case.proofs.RootModel.{samples_of_model, cells_of_root, around_is_root, walls_same}
 use Rattle.bf_case.proofs.RootSteps.{SamplesRoots, InRoot, index_of, corner_at, own_at, walls_by_tests, walls_are_by_tests, x_below_is, x_above_is, y_below_is, y_above_is, z_below_is, z_above_is}
-use Rattle.bf_block.specs.Runs.{CanRun}
-use Rattle.bf_block.specs.Around.{HoldSamples, value_across}
+use Rattle.bf_block.specs.Runs.{never_refines, CanRun}
+use Rattle.bf_case.specs.Beside.{HoldSamples, value_across}
 use Rattle.bf_block.proofs.Steps.{model_regridded}
 
 module _ (shape : Shape) (leaves : List Leaf) (x y z : ℕ) where
@@ -95,14 +95,14 @@ pub walls_hold : (c : Case) (time root : ℕ) (grid : ℕ → Grid) → CanRun c
     → HoldSamples c.roots (model_at c time true) (root_id root) (grid root) (walls_around c.roots c.side grid root)
 walls_hold c time root grid runs below known =
     let valid = runs.valid in
-    let flat = runs.one_level in
+    let never = never_refines runs in
     let leaves = model c time in
     let found : (k : ℕ) → IsAround c.roots root k → grid_at leaves k ≡ grid k =
-    λ k around. the_same (grid_at leaves k) (grid k) (sym (cells_of_root c time k valid flat (around_is_root c.roots root k valid.sized.shape below around)) ∙ known k around) in
+    λ k around. the_same (grid_at leaves k) (grid k) (sym (cells_of_root c time k valid never (around_is_root c.roots root k valid.sized.shape below around)) ∙ known k around) in
     subst (λ (l : List Leaf). HoldSamples c.roots l (root_id root) (grid root) (walls_around c.roots c.side grid root)) (sym (model_regridded c time runs))
     (subst (λ (g : Grid). HoldSamples c.roots leaves (root_id root) g (walls_around c.roots c.side grid root)) (found root (inl refl))
     (subst (λ (w : Walls). HoldSamples c.roots leaves (root_id root) (grid_at leaves root) w) (walls_same c.roots c.side (grid_at leaves) grid root found)
-    (hold_of_root c.roots c.side leaves root valid.sized.shape (samples_of_model c time valid flat) below)))
+    (hold_of_root c.roots c.side leaves root valid.sized.shape (samples_of_model c time valid never) below)))
   where
     the_same : (g h : Grid) → Some g ≡ Some h → g ≡ h
     the_same g h e = cc

@@ -1,5 +1,4 @@
 pub mod Runs
 pub mod Setup
-pub mod Around
 pub mod Block
 pub mod BlockFields

@@ -1,9 +1,14 @@
 -- The cases that can be set up.
-use Rattle.std.specs.Prelude.{◌≡◌}
+use Rattle.std.proofs.Common.{◌≡◌, inl}
 use Rattle.bf_case.specs.declared.case.Case.{Case}
 use Rattle.bf_case.specs.Case.{IsValid}
+use Rattle.bf_case.specs.Model.{NeverRefines}
 
--- a valid case of one level
+-- a valid case without regrids
 pub record CanRun (c : Case) : Type 0 where
   pub valid : IsValid c
-  pub one_level : c.levels ≡ 0
+  pub no_regrid : c.regrid ≡ 0
+
+-- so its roots stay the leaves
+pub never_refines : {c : Case} → CanRun c → NeverRefines c
+never_refines runs = inl runs.no_regrid

@@ -1,7 +1,7 @@
 ghost use Rattle.std.specs.Prelude.{◌≡◌, ◌<◌, Contains, IsFalse, IsTrue, IfErr, IfOk};
 ghost use Rattle.bf_id.specs.Shape.{root_count};
 ghost use Rattle.bf_case.specs.Map.{ids_of};
-ghost use Rattle.bf_block.specs.Around.{HoldSamples};
+ghost use Rattle.bf_case.specs.Beside.{HoldSamples};
 ghost use Rattle.bf_block.specs.Block.{IsModels, initial_block, kept_block, stepped_block, map_at, after_regrid};
 
 use crate::{Kept, Memory, Opening, Point, Setup};

@@ -8,7 +8,7 @@ ghost use Rattle.bf_case.specs.Around.{walls_around, IsAround};
 ghost use Rattle.bf_case.specs.Map.{cells_at, ids_of};
 ghost use Rattle.bf_case.specs.Model.{model};
 ghost use Rattle.bf_block.specs.Runs.{CanRun};
-ghost use Rattle.bf_block.specs.Around.{HoldSamples};
+ghost use Rattle.bf_case.specs.Beside.{HoldSamples};
 ghost use Rattle.bf_block.specs.Block.{BlockValue, IsModels, after_regrid, map_at};
 
 /// The walls around a root hold the samples around it, where all cells meant are those of the model: the root's own, and
@@ -20,8 +20,8 @@ pub fn the_walls_around_a_root_hold_samples()
         → HoldSamples c.roots (map_at c (after_regrid time)) (root_id root) (grid root) (walls_around c.roots c.side grid root) }
 {}
 
-/// A regrid of one level keeps each block.
-pub fn a_regrid_of_one_level_keeps_each_block()
+/// Where nothing regrids, each block is a leaf still after the regrid of its time.
+pub fn where_nothing_regrids_each_block_is_kept()
     ensures { (b : BlockValue)
         → CanRun b.case → IsModels b → IsFalse b.point.regridded
         → Contains (ids_of (map_at b.case (after_regrid b.point.time))) b.id }

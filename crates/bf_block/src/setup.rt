@@ -82,10 +82,10 @@ impl Setup {
         self.case().side
     }
 
-    /// The finest level, which is 0.
+    /// The finest level to which a regrid may refine.
     pub fn levels(&self) -> u32
         ensures value { result ≡ (case_of self.now).levels }
-        ensures one_level { result ≡ 0 }
+        ensures shallow { result ≤ 4 }
     {
         self.case().levels
     }
@@ -114,10 +114,10 @@ impl Setup {
         self.case().snapshot
     }
 
-    /// Steps from one regrid to the next; 0 for none.
+    /// Steps from one regrid to the next: 0, for none.
     pub fn regrid(&self) -> u32
         ensures value { result ≡ (case_of self.now).regrid }
-        ensures few { result ≤ 128 }
+        ensures none { result ≡ 0 }
     {
         self.case().regrid
     }

@@ -5,7 +5,7 @@ ghost use Rattle.bf_id.specs.Shape.{root_count};
 ghost use Rattle.bf_block.specs.Block.{after_regrid};
 ghost use Rattle.bf_block.specs.Setup.{case_of};
 
-use crate::laws::{a_regrid_of_one_level_keeps_each_block, the_walls_around_a_root_hold_samples};
+use crate::laws::{the_walls_around_a_root_hold_samples, where_nothing_regrids_each_block_is_kept};
 use crate::{Block, Memory, Opening, Point, Setup};
 use bf_case::{Case, Fill, RootCells, surround};
 use bf_cells::{Cells, Shell};
@@ -15,7 +15,7 @@ use std::alloc::Global;
 use std::process::Abort;
 use std::test::Fail;
 
-// The first cell has 8, the others 0; three steps.
+// The first cell has 8, the others 0; three steps, and no regrid, whatever level one might reach.
 fn one_drop(alloc: Global) -> Result<Case, Memory> {
     let drop = Fill {
         low: [0, 0, 0],
@@ -29,11 +29,11 @@ fn one_drop(alloc: Global) -> Result<Case, Memory> {
             nz: 1,
         },
         side: 2,
-        levels: 0,
+        levels: 2,
         ranks: 2,
         steps: 3,
         snapshot: 4,
-        regrid: 5,
+        regrid: 0,
         refine: 7,
         coarsen: 6,
         flow: 8,
@@ -90,7 +90,7 @@ fn opened(rt: &impl Abort, alloc: Global) -> Result<(Opening, Setup), Memory>
 {
     let case = one_drop(alloc)?;
     assert!(rt; case.valid());
-    assert!(rt; case.levels == 0);
+    assert!(rt; case.regrid == 0);
     Opening::of(alloc, case)
 }
 
@@ -104,7 +104,7 @@ fn kept_first(alloc: Global, opening: &Opening, setup: &Setup) -> Result<Block, 
     let _some = setup.root_count();
     let block = Block::initial(alloc, opening, 0)?;
     let _cells = block.cells();
-    a_regrid_of_one_level_keeps_each_block();
+    where_nothing_regrids_each_block_is_kept();
     Ok(block.kept())
 }
 
@@ -147,7 +147,7 @@ fn a_setup_shows_its_case(rt: HostRuntime) -> Result<(), Fail> {
         setup.turns(),
         setup.shift(),
     ];
-    assert_eq!(rt; numbers, [2, 0, 2, 4, 5, 7, 6, 8, 1, 9]);
+    assert_eq!(rt; numbers, [2, 2, 2, 4, 0, 7, 6, 8, 1, 9]);
     assert_eq!(rt; setup.dies(), [(1, 17)].as_slice());
     assert_eq!(rt; setup.order(), [1, 0].as_slice());
     Ok(())

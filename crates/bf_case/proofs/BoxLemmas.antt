@@ -157,20 +157,21 @@ filled_next side first fills i d cells new inside so_far is =
     is ∙ ap (λ g. with_fill g first (get_or fills i d)) so_far ∙ filled_more side first fills i d inside
 
 -- the fills of a valid case have coordinates far below 2 ^ 32
-pub rooms : (c : Case) → IsValid c → All HasRoom c.fills
-rooms c valid =
-    All-weaker (IsFill c.roots c.side) HasRoom
-    (λ f fill.
+pub room_of : (c : Case) → IsValid c → (f : Fill) → IsFill c.roots c.side f → HasRoom f
+room_of c valid f fill =
     let sized = valid.sized in
     let axis : (n : ℕ) → n ≤ 16 → n * c.side ≤ 16 * 16 = λ n few. mul-le n c.side 16 16 few sized.narrow in
     record {
       along_x = small _ (c.roots.nx * c.side) fill.along_x.inside (axis c.roots.nx sized.shape.few_x);
       along_y = small _ (c.roots.ny * c.side) fill.along_y.inside (axis c.roots.ny sized.shape.few_y);
       along_z = small _ (c.roots.nz * c.side) fill.along_z.inside (axis c.roots.nz sized.shape.few_z);
-    }) c.fills valid.fills
+    }
   where
     small : (h extent : ℕ) → h < extent → extent ≤ 16 * 16 → h + 1 < 2 ^ 32
     small h extent below few = omega arith
+
+pub rooms : (c : Case) → IsValid c → All HasRoom c.fills
+rooms c valid = All-weaker (IsFill c.roots c.side) HasRoom (room_of c valid) c.fills valid.fills
 
 -- the cells of a root, filled
 pub cells_are_filled : (c : Case) (k : ℕ) (g : Grid) (first : Voxel) (fills : List Fill)

@@ -1,5 +1,5 @@
--- Maps stay maps: at the beginning, over a step, and where there is one level over a regrid.
-use Rattle.std.proofs.Common.{◌≡◌, ℕ, zero, suc, ◌+◌, ◌-◌, ◌*◌, ◌%◌, ◌^◌, ◌<◌, ◌≤◌, Bool, false, ◌&&◌, ◌||◌, if◌then◌else◌, List, [], ◌∷◌, get_or, map, fold, filter, Option, None, Some, Contains, refl, sym, ap, subst, ◌∙◌, arith, All, lit<, ◌==◌}
+-- Maps stay maps: at the beginning, over a step, and where no leaf is ever refined over a regrid.
+use Rattle.std.proofs.Common.{◌≡◌, ℕ, zero, suc, ◌+◌, ◌-◌, ◌*◌, ◌%◌, ◌^◌, ◌<◌, ◌≤◌, Bool, false, ◌&&◌, ◌||◌, if◌then◌else◌, List, [], ◌∷◌, get_or, map, fold, filter, Option, None, Some, inl, inr, Contains, refl, sym, ap, subst, ◌∙◌, arith, All, lit<, ◌==◌}
 use Rattle.std.specs.Prelude.{AllPairs, nat_lt}
 use Rattle.std.specs.List.{range_with_len, list_any}
 use Rattle.std.specs.Option.{option_map_or}
@@ -13,7 +13,7 @@ use Rattle.std.proofs.lemmas.List.Elements.{All-nil, All-head, All-tail, All-map
 use Rattle.bf_id.specs.declared.shape.Shape.{Shape}
 use Rattle.bf_id.specs.Cube.{Voxel}
 use Rattle.bf_id.specs.Shape.{IsShape, root_count}
-use Rattle.bf_id.specs.Id.{BlockId, IsId, InShape, level_of, root_id, touches, parent_of, octant_of, children_of}
+use Rattle.bf_id.specs.Id.{BlockId, IsId, InShape, level_of, root_id, touches, parent_of}
 use Rattle.bf_id.specs.Tiling.{Tiles}
 use Rattle.bf_id.specs.Walk.{IsBefore}
 use Rattle.bf_id.proofs.Tilings.{roots_Tiles}
@@ -29,8 +29,9 @@ use Rattle.bf_case.specs.Stencil.{extent_of, stepped_value, stencil}
 use Rattle.bf_case.specs.Wishes.{Wishes, wishes_of}
 use Rattle.bf_case.specs.Refinement.{is_among, refined_within, refined_ids}
 use Rattle.bf_case.specs.Merging.{merges}
-use Rattle.bf_case.specs.Regrid.{heirs_of, regridded_ids, sampled_leaf, regrid}
-use Rattle.bf_case.specs.Model.{root_ids, has_cell, filled_value, first_cell, filled_root, initial, regrids, regridded, model}
+use Rattle.bf_case.specs.Regrid.{heirs_by, heirs_of, regridded_ids, sampled_leaf, regrid}
+use Rattle.bf_case.specs.declared.target.Target.TheVariants.{Keep, Refine, Merge}
+use Rattle.bf_case.specs.Model.{root_ids, has_cell, filled_value, first_cell, filled_root, initial, regrids, regridded, model, NeverRefines}
 use Rattle.bf_case.proofs.TestLemmas.{filter_none}
 use Rattle.bf_case.proofs.ListLemmas.{map_same, flat_map_same, All-from_fn, AllPairs-from_fn}
 use Rattle.bf_case.proofs.SampleLemmas.{own_sample, sample_small}
@@ -81,7 +82,7 @@ ids_of-stencil shape side leaves =
     (λ (leaf : Leaf). (leaf.0, table side (λ x y z. stepped_value shape side leaves (level_of leaf.0) (cell_corner shape side leaf.0 x y z)))) leaves
 
 -- a leaf with a table of small values
-HasCells-table : (side : ℕ) (i : BlockId) (f : ℕ → ℕ → ℕ → ℕ) → side % 2 ≡ 0 → 2 ≤ side → side ≤ 16 → ((x y z : ℕ) → f x y z < 2 ^ 32) → HasCells side (i, table side f)
+pub HasCells-table : (side : ℕ) (i : BlockId) (f : ℕ → ℕ → ℕ → ℕ) → side % 2 ≡ 0 → 2 ≤ side → side ≤ 16 → ((x y z : ℕ) → f x y z < 2 ^ 32) → HasCells side (i, table side f)
 HasCells-table side i f even low high small = record {
   valid = IsGrid-table side f even low high (λ x y z _ _ _. small x y z);
   fits = side-table side f;
@@ -126,11 +127,10 @@ own_heir : (shape : Shape) (ids : List BlockId) (w : Wishes) (i : BlockId) → r
 own_heir shape ids w i none root =
     let refined = refined_ids shape ids w in
     let merging = nat_lt 0 (level_of i) && merges shape ids w refined (parent_of i) in
-    let later = if merging then (if octant_of i == 0 then parent_of i ∷ [] else []) else i ∷ [] in
     let out : is_among refined i ≡ false = ap (λ r. is_among r i) none in
     let apart : merging ≡ false = and_left (nat_lt 0 (level_of i)) (merges shape ids w refined (parent_of i)) (le-ltb 0 (level_of i) (omega arith)) in
-    cond-false (is_among refined i) (children_of i) later out
-    ∙ cond-false merging (if octant_of i == 0 then parent_of i ∷ [] else []) (i ∷ []) apart
+    ap (λ t. heirs_by t i)
+    (cond-false (is_among refined i) Refine (if merging then Merge else Keep) out ∙ cond-false merging Merge Keep apart)
 
 -- a leaf of a map, sampled, is the leaf
 pub sampled_leaf_same : (shape : Shape) (side : ℕ) (leaves : List Leaf) (leaf : Leaf) → IsMap shape side leaves → Contains leaves leaf → HasCells side leaf
@@ -205,25 +205,28 @@ IsMap-initial c is =
           (All-weaker (IsFill c.roots c.side) (λ (f : Fill). f.value < 2 ^ 32) (λ f fill. fill.value_fits) c.fills is.fills) (lit< tt)));
     }
 
--- ---- the model at one level
+-- ---- the model where no leaf is ever refined
 
 -- a map with the ids of the roots
 pub record IsRootMap (c : Case) (leaves : List Leaf) : Type 0 where
   pub map : IsMap c.roots c.side leaves
   pub roots : ids_of leaves ≡ root_ids c.roots
 
-pub regridded_same : (c : Case) (time : ℕ) (leaves : List Leaf) → c.levels ≡ 0 → IsRootMap c leaves → regridded c time leaves ≡ leaves
-regridded_same c time leaves flat is =
+-- no regrid changes it: none comes, or it gives the map itself
+pub regridded_same : (c : Case) (time : ℕ) (leaves : List Leaf) → NeverRefines c → IsRootMap c leaves → regridded c time leaves ≡ leaves
+regridded_same c time leaves (inl none) is = cond-false (regrids c time) (regrid c leaves) leaves (rw none refl)
+regridded_same c time leaves (inr flat) is =
     let levels : All (λ i. level_of i ≡ 0) (ids_of leaves) =
     subst (All (λ i. level_of i ≡ 0)) (sym is.roots) (All-from_fn (λ i. level_of i ≡ 0) root_id (root_count c.roots) (λ k h. refl)) in
     cond_both (regrids c time) (regrid c leaves) leaves (λ m. m ≡ leaves) (λ _. regrid_same c leaves flat is.map levels) (λ _. refl)
 
-pub IsRootMap-model : (c : Case) (time : ℕ) → IsValid c → c.levels ≡ 0 → IsRootMap c (model c time)
+-- so the roots stay the leaves
+pub IsRootMap-model : (c : Case) (time : ℕ) → IsValid c → NeverRefines c → IsRootMap c (model c time)
 unfolding model
-IsRootMap-model c zero is flat = record { map = IsMap-initial c is; roots = ids_of-initial c }
-IsRootMap-model c (suc time) is flat =
-    let before : IsRootMap c (model c time) = IsRootMap-model c time is flat in
-    let same : regridded c time (model c time) ≡ model c time = regridded_same c time (model c time) flat before in
+IsRootMap-model c zero is never = record { map = IsMap-initial c is; roots = ids_of-initial c }
+IsRootMap-model c (suc time) is never =
+    let before : IsRootMap c (model c time) = IsRootMap-model c time is never in
+    let same : regridded c time (model c time) ≡ model c time = regridded_same c time (model c time) never before in
     subst (λ leaves. IsRootMap c (stencil c.roots c.side leaves)) (sym same) (record {
       map = IsMap-stencil c.roots c.side (model c time) before.map;
       roots = ids_of-stencil c.roots c.side (model c time) ∙ before.roots;

@@ -1,4 +1,4 @@
--- The model of a case of one level, root by root.
+-- The model of a case that never refines, root by root.
 use Rattle.std.proofs.Common.{◌≡◌, ℕ, ◌+◌, ◌-◌, ◌*◌, ◌/◌, ◌%◌, ◌<◌, ◌≢◌, Bool, true, false, cond, eqb, Option, None, Some, inl, inr, List, length, get_or, Contains, refl, sym, ◌∙◌, ap, subst, arith}
 use Rattle.std.proofs.Math.Numerals.{add-one}
 use Rattle.std.proofs.lemmas.Bool.Decides.{eqb_tells}
@@ -18,7 +18,7 @@ use Rattle.bf_case.specs.Case.{IsValid}
 use Rattle.bf_case.specs.Map.{Leaf, cells_at}
 use Rattle.bf_case.specs.Sample.{sample, cell_corner}
 use Rattle.bf_case.specs.Stencil.{stencil}
-use Rattle.bf_case.specs.Model.{model}
+use Rattle.bf_case.specs.Model.{model, NeverRefines}
 use Rattle.bf_case.specs.Around.{AreRootIds, across, grid_at, nothing, wall_from, walls_around, IsAround}
 use Rattle.bf_case.proofs.SampleLemmas.{own_sample}
 use Rattle.bf_case.proofs.MapLemmas.{IsRootMap-model, regridded_same}
@@ -26,20 +26,20 @@ use Rattle.bf_case.proofs.LookupLemmas.{cells_at-leaf, cells_at-stencil}
 use Rattle.bf_case.proofs.RootSteps.{SamplesRoots, roots_are, stencil_at_root}
 use Rattle.bf_case.proofs.RootsAround.{x_next_in, y_next_in, z_next_in}
 
-pub roots_of_model : (c : Case) (time : ℕ) → IsValid c → c.levels ≡ 0 → AreRootIds c.roots (model c time)
-roots_of_model c time valid flat = (IsRootMap-model c time valid flat).roots
+pub roots_of_model : (c : Case) (time : ℕ) → IsValid c → NeverRefines c → AreRootIds c.roots (model c time)
+roots_of_model c time valid never = (IsRootMap-model c time valid never).roots
 
-pub side_in_model : (c : Case) (time : ℕ) → IsValid c → c.levels ≡ 0 → (k : ℕ) → k < length (model c time) → (grid_at (model c time) k).side ≡ c.side
-side_in_model c time valid flat k below = ((IsRootMap-model c time valid flat).map.cells k nothing below).fits
+pub side_in_model : (c : Case) (time : ℕ) → IsValid c → NeverRefines c → (k : ℕ) → k < length (model c time) → (grid_at (model c time) k).side ≡ c.side
+side_in_model c time valid never k below = ((IsRootMap-model c time valid never).map.cells k nothing below).fits
 
 -- each root's own cells are what the model samples there
-pub samples_of_model : (c : Case) (time : ℕ) → IsValid c → c.levels ≡ 0 → SamplesRoots c.roots c.side (model c time)
-samples_of_model c time valid flat =
+pub samples_of_model : (c : Case) (time : ℕ) → IsValid c → NeverRefines c → SamplesRoots c.roots c.side (model c time)
+samples_of_model c time valid never =
     let leaves = model c time in
-    let is = (IsRootMap-model c time valid flat).map in
-    let are = roots_are c.roots leaves (roots_of_model c time valid flat) in
+    let is = (IsRootMap-model c time valid never).map in
+    let are = roots_are c.roots leaves (roots_of_model c time valid never) in
     record {
-      sides = λ k below. side_in_model c time valid flat k (omega (arith, are.0));
+      sides = λ k below. side_in_model c time valid never k (omega (arith, are.0));
       own = λ k x y z below x_in y_in z_in.
           let leaf = get_or leaves k nothing in
           subst (λ i. sample c.roots c.side leaves (level_of i) (cell_corner c.roots c.side i x y z) ≡ cell_at leaf.1 x y z) (are.1 k nothing below)
@@ -47,21 +47,21 @@ samples_of_model c time valid flat =
     }
 
 -- no regrid changes the map
-pub model_next : (c : Case) (time : ℕ) → IsValid c → c.levels ≡ 0 → model c (time + 1) ≡ stencil c.roots c.side (model c time)
+pub model_next : (c : Case) (time : ℕ) → IsValid c → NeverRefines c → model c (time + 1) ≡ stencil c.roots c.side (model c time)
 unfolding model
-model_next c time valid flat =
-    rw add-one (ap (stencil c.roots c.side) (regridded_same c time (model c time) flat (IsRootMap-model c time valid flat)))
+model_next c time valid never =
+    rw add-one (ap (stencil c.roots c.side) (regridded_same c time (model c time) never (IsRootMap-model c time valid never)))
 
 -- a root is found by its id
-pub cells_of_root : (c : Case) (time k : ℕ) → IsValid c → c.levels ≡ 0 → k < root_count c.roots
+pub cells_of_root : (c : Case) (time k : ℕ) → IsValid c → NeverRefines c → k < root_count c.roots
     → cells_at (model c time) (root_id k) ≡ Some (grid_at (model c time) k)
-cells_of_root c time k valid flat below =
+cells_of_root c time k valid never below =
     let leaves = model c time in
     let leaf = get_or leaves k nothing in
-    let are = roots_are c.roots leaves (roots_of_model c time valid flat) in
+    let are = roots_are c.roots leaves (roots_of_model c time valid never) in
     let named : BlockId → Leaf = λ i. (i, leaf.1) in
     let has : Contains leaves leaf = Contains-get_or leaves k nothing (omega (arith, are.0)) in
-    cells_at-leaf leaves (root_id k) leaf.1 (IsRootMap-model c time valid flat).map.rising
+    cells_at-leaf leaves (root_id k) leaf.1 (IsRootMap-model c time valid never).map.rising
     (subst (Contains leaves) (ap named (are.1 k nothing below)) has)
 
 -- ---- what lies around a root
@@ -126,20 +126,20 @@ walls_same shape edge g h k same =
 
 -- ---- a step of one root
 
-pub root_steps : (c : Case) (time root : ℕ) (grid : ℕ → Grid) → IsValid c → c.levels ≡ 0 → root < root_count c.roots
+pub root_steps : (c : Case) (time root : ℕ) (grid : ℕ → Grid) → IsValid c → NeverRefines c → root < root_count c.roots
     → ((k : ℕ) → IsAround c.roots root k → cells_at (model c time) (root_id k) ≡ Some (grid k))
     → cells_at (model c (time + 1)) (root_id root) ≡ Some (relaxed_grid (grid root) (walls_around c.roots c.side grid root))
 unfolding relaxed_grid
-root_steps c time root grid valid flat below known =
+root_steps c time root grid valid never below known =
     let leaves = model c time in
     let shape = c.roots in
-    let is = IsRootMap-model c time valid flat in
-    let samples = samples_of_model c time valid flat in
+    let is = IsRootMap-model c time valid never in
+    let samples = samples_of_model c time valid never in
     let found : (k : ℕ) → IsAround shape root k → grid_at leaves k ≡ grid k =
-    λ k around. the_same (grid_at leaves k) (grid k) (sym (cells_of_root c time k valid flat (around_is_root shape root k valid.sized.shape below around)) ∙ known k around) in
+    λ k around. the_same (grid_at leaves k) (grid k) (sym (cells_of_root c time k valid never (around_is_root shape root k valid.sized.shape below around)) ∙ known k around) in
     let own = grid_at leaves root in
-    ap (λ m. cells_at m (root_id root)) (model_next c time valid flat)
-    ∙ cells_at-stencil shape c.side leaves (root_id root) own is.map (cells_of_root c time root valid flat below)
+    ap (λ m. cells_at m (root_id root)) (model_next c time valid never)
+    ∙ cells_at-stencil shape c.side leaves (root_id root) own is.map (cells_of_root c time root valid never below)
     ∙ ap Some (same_tables c.side _ (relaxed_cell own (walls_around shape c.side (grid_at leaves) root))
     (λ u v w u_in v_in w_in. stencil_at_root shape c.side leaves valid.sized.shape samples root u v w below u_in v_in w_in)
     ∙ ap (λ s. table s (relaxed_cell own (walls_around shape c.side (grid_at leaves) root))) (sym (samples.sides root below))

@@ -1,4 +1,4 @@
--- A step of a map of one level, root by root: what the stencil gives is the step of the root's cells between the walls around it.
+-- A step of a map of the roots, root by root: what the stencil gives is the step of the root's cells between the walls around it.
 use Rattle.std.proofs.Common.{refl, None, Some, false, true, Bool, ◌≡◌, ℕ, zero, suc, ◌+◌, ◌-◌, ◌*◌, ◌/◌, ◌%◌, ◌<◌, ◌≢◌, List, cond, eqb, length, get_or, sym, ◌∙◌, ap, subst, arith}
 use Rattle.std.proofs.Math.Numerals.{sub-one}
 use Rattle.std.proofs.lemmas.List.{length-map, get_or-map}
@@ -347,7 +347,7 @@ stencil_at_root shape side leaves valid roots k u v w k_in u_in v_in w_in =
     (sym (walls_are_by_tests shape side leaves (index_of shape (k % shape.nx) (k / shape.nx % shape.ny) (k / shape.nx / shape.ny))))
     (stepped_at shape side leaves roots (k % shape.nx) (k / shape.nx % shape.ny) (k / shape.nx / shape.ny) u v w at))
 
--- a map of one level has as many leaves as there are roots, and the leaf k is the root k
+-- a map of the roots has as many leaves as there are roots, and the leaf k is the root k
 pub roots_are : (shape : Shape) (leaves : List Leaf) → AreRootIds shape leaves
     → (length leaves ≡ root_count shape) × ((k : ℕ) (d : Leaf) → k < root_count shape → (get_or leaves k d).0 ≡ root_id k)
 roots_are shape leaves ids =

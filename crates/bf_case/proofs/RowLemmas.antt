@@ -14,7 +14,7 @@ use Rattle.bf_case.specs.Merging.{merges_within}
 use Rattle.bf_case.specs.Regrid.{regridded_ids, regrid}
 use Rattle.bf_case.specs.Model.{initial, model}
 use Rattle.bf_case.specs.MapText.{grid_text, map_text}
-use Rattle.bf_case.specs.Rows.{full_block, full_block_text, one_drop, one_drop_text, brim_full, brim_full_text, two_levels, two_levels_text, eight_merge, eight_merge_text, seven_wish, seven_wish_text, forced, other_roots, odd_children, wishing, forced_ids, two_roots, three_levels, three_levels_merged, spotted, low_limit, peak_of_level_1, peak_of_level_1_ids, peak_of_level_2, peak_of_level_2_ids, first_child, forced_child}
+use Rattle.bf_case.specs.Rows.{full_block, full_block_text, one_drop, one_drop_text, brim_full, brim_full_text, two_levels, two_levels_text, eight_merge, eight_merge_text, seven_wish, seven_wish_text, forced, other_roots, odd_children, wishing, forced_ids, two_roots, three_levels, three_levels_merged, spotted, low_limit, peak_of_level_1, peak_of_level_1_ids, peak_of_level_2, peak_of_level_2_ids, first_child, forced_child, second_child, deep_child, deep_root, chain_from_level_2, chain_from_level_3}
 
 pub full_block_row : map_text (model full_block 0) ≡ full_block_text
 unfolding digits model initial table grid_text map_text
@@ -112,3 +112,13 @@ forced_leaf_refined = refl
 pub forced_leaf_row : ids_of (regrid (low_limit 3) peak_of_level_2) ≡ peak_of_level_2_ids
 unfolding sample table regrid regridded_ids refined_within merges_within
 forced_leaf_row = refl
+
+pub chain_from_level_2_row : refined_ids (low_limit 3).roots (ids_of chain_from_level_2) (wishes_of (low_limit 3) chain_from_level_2)
+    ≡ root_id 0 ∷ first_child ∷ child_of second_child 0 ∷ []
+unfolding table refined_within
+chain_from_level_2_row = refl
+
+pub chain_from_level_3_row : refined_ids deep_root.roots (ids_of chain_from_level_3) (wishes_of deep_root chain_from_level_3)
+    ≡ child_of (root_id 0) 0 ∷ child_of (child_of (root_id 0) 1) 0 ∷ child_of deep_child 0 ∷ []
+unfolding table refined_within
+chain_from_level_3_row = refl

@@ -104,18 +104,27 @@ own_cell_held shape side i x y z some shallow hx hy hz =
       along_z = subst (λ e. Spans box.z e (own_unit side box.z scale z)) edge (unit_in_span side box.z scale z some wide hz);
     }
 
--- the leaf that has a leaf's cell is that leaf
-pub own_leaf : (shape : Shape) (side : ℕ) (leaves : List Leaf) (leaf : Leaf) (x y z : ℕ) → 0 < side → IsMap shape side leaves → Contains leaves leaf
-    → x < side → y < side → z < side → leaf_at shape side leaves (cell_corner shape side leaf.0 x y z) ≡ Some leaf
-own_leaf shape side leaves leaf x y z some is has hx hy hz =
-    let u : Voxel = unit_of side (cell_corner shape side leaf.0 x y z) in
-    let id = All-contains IsId (ids_of leaves) leaf.0 is.ids (Contains-map (λ (leaf : Leaf). leaf.0) leaves leaf has) in
-    let held = own_cell_held shape side leaf.0 x y z some id.shallow hx hy hz in
+-- the leaf whose box holds the unit of a finest cell is the leaf that has it
+pub leaf_holding : (shape : Shape) (side : ℕ) (leaves : List Leaf) (leaf : Leaf) (p : Voxel) → IsMap shape side leaves → Contains leaves leaf
+    → Holds (box_of shape leaf.0) (unit_of side p) → leaf_at shape side leaves p ≡ Some leaf
+leaf_holding shape side leaves leaf p is has held =
+    let u : Voxel = unit_of side p in
     find_only (λ (other : Leaf). holds (box_of shape other.0) u) leaves leaf has
     ((holds_decides (box_of shape leaf.0) u).1 held)
     (λ (other : Leaf) has' passed. same_leaf leaves other leaf is.rising has' has
     (is.tiling.apart u other.0 leaf.0 (Contains-map (λ (leaf : Leaf). leaf.0) leaves other has') (Contains-map (λ (leaf : Leaf). leaf.0) leaves leaf has)
     ((holds_decides (box_of shape other.0) u).0 passed) held))
+
+-- the id of a leaf is one
+pub id_of_leaf : (shape : Shape) (side : ℕ) (leaves : List Leaf) (leaf : Leaf) → IsMap shape side leaves → Contains leaves leaf → IsId leaf.0
+id_of_leaf shape side leaves leaf is has = All-contains IsId (ids_of leaves) leaf.0 is.ids (Contains-map (λ (leaf : Leaf). leaf.0) leaves leaf has)
+
+-- the leaf that has a leaf's cell is that leaf
+pub own_leaf : (shape : Shape) (side : ℕ) (leaves : List Leaf) (leaf : Leaf) (x y z : ℕ) → 0 < side → IsMap shape side leaves → Contains leaves leaf
+    → x < side → y < side → z < side → leaf_at shape side leaves (cell_corner shape side leaf.0 x y z) ≡ Some leaf
+own_leaf shape side leaves leaf x y z some is has hx hy hz =
+    leaf_holding shape side leaves leaf (cell_corner shape side leaf.0 x y z) is has
+    (own_cell_held shape side leaf.0 x y z some (id_of_leaf shape side leaves leaf is has).shallow hx hy hz)
 
 -- what a leaf says of its own cell is the cell
 pub own_value : (shape : Shape) (side : ℕ) (leaf : Leaf) (x y z : ℕ)

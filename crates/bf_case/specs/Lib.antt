@@ -1,7 +1,7 @@
 pub mod Case
 pub mod CaseText
-pub mod Reading
 pub mod Map
+pub mod Balanced
 pub mod Sample
 pub mod Stencil
 pub mod Wishes
@@ -12,4 +12,5 @@ pub mod Model
 pub mod MapText
 pub mod Filling
 pub mod Around
+pub mod Beside
 pub mod Rows

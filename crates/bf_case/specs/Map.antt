@@ -1,10 +1,11 @@
 -- Maps: leaves with their cells.
-use Rattle.std.specs.Prelude.{◌≡◌, ℕ, List, Option, map, find, option_map, All, AllPairs}
+use Rattle.std.specs.Prelude.{◌≡◌, ◌≤◌, ℕ, List, Option, map, find, option_map, All, AllPairs}
 use Rattle.bf_id.specs.declared.shape.Shape.{Shape}
-use Rattle.bf_id.specs.Id.{BlockId, IsId, InShape, id_eq}
-use Rattle.bf_id.specs.Tiling.{Tiles}
+use Rattle.bf_id.specs.Id.{BlockId, IsId, InShape, id_eq, level_of}
+use Rattle.bf_id.specs.Tiling.{Tiles, IsBalanced}
 use Rattle.bf_id.specs.Walk.{IsBefore}
 use Rattle.bf_cells.specs.Grid.{Grid, IsGrid}
+use Rattle.bf_case.specs.declared.case.Case.{Case}
 
 -- a leaf: its id and its cells
 abbrev pub Leaf : Type 0
@@ -30,3 +31,9 @@ pub record IsMap (shape : Shape) (side : ℕ) (leaves : List Leaf) : Type 0 wher
   pub in_shape : All (InShape shape) (ids_of leaves)
   pub rising : AllPairs IsBefore (ids_of leaves)
   pub cells : All (HasCells side) leaves
+
+-- a map of a case: no leaf lies below the finest level, and touching leaves differ by at most one
+pub record IsBalancedMap (c : Case) (leaves : List Leaf) : Type 0 where
+  pub map : IsMap c.roots c.side leaves
+  pub shallow : All (λ i. level_of i ≤ c.levels) (ids_of leaves)
+  pub balanced : IsBalanced c.roots (ids_of leaves)

@@ -1,5 +1,5 @@
 -- The one-rank model: one map for each time, with no ranks and no messages.
-use Rattle.std.specs.Prelude.{ℕ, zero, suc, ◌*◌, ◌/◌, ◌%◌, ◌==◌, ◌&&◌, nat_lt, nat_le, Bool, if◌then◌else◌, List, map, fold, slice_index}
+use Rattle.std.specs.Prelude.{◌≡◌, ◌⊎◌, ℕ, zero, suc, ◌*◌, ◌/◌, ◌%◌, ◌==◌, ◌&&◌, nat_lt, nat_le, Bool, if◌then◌else◌, List, map, fold, slice_index}
 use Rattle.std.specs.List.{range_with_len}
 use Rattle.bf_id.specs.declared.shape.Shape.{Shape}
 use Rattle.bf_id.specs.Cube.{Voxel}
@@ -53,6 +53,10 @@ initial c = map (filled_root c) (range_with_len 0 (root_count c.roots))
 -- whether there is a regrid at this time
 abbrev pub regrids : Case → ℕ → Bool
 regrids c time = nat_lt 0 c.regrid && time % c.regrid == 0
+
+-- no leaf is ever refined: no regrid comes, or level 0 is the finest
+abbrev pub NeverRefines : Case → Type 0
+NeverRefines c = (c.regrid ≡ 0) ⊎ (c.levels ≡ 0)
 
 -- a map of this time after its regrid, if there is one
 abbrev pub regridded : Case → ℕ → List Leaf → List Leaf

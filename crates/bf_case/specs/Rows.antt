@@ -1,5 +1,5 @@
 -- Small cases, and what their maps are.
-use Rattle.std.specs.Prelude.{ℕ, ◌%◌, ◌==◌, if◌then◌else◌, List, [], ◌∷◌, ◌++◌, codes, map, flat_map, slice_set}
+use Rattle.std.specs.Prelude.{ℕ, ◌-◌, ◌%◌, ◌==◌, if◌then◌else◌, List, [], ◌∷◌, ◌++◌, codes, map, flat_map, slice_set}
 use Rattle.std.specs.List.{range_with_len}
 use Rattle.bf_id.specs.Id.{BlockId, root_id, child_of, children_of}
 use Rattle.bf_cells.specs.Grid.{filled_with}
@@ -212,3 +212,31 @@ abbrev pub peak_of_level_2_ids : List BlockId
 peak_of_level_2_ids =
     child_of (root_id 0) 0 ∷ children_of forced_child ++ (map (child_of (root_id 0)) (range_with_len 2 6)
     ++ (children_of (child_of first_child 0) ++ (map (child_of first_child) (range_with_len 1 7) ++ later_children)))
+
+-- ---- chains
+
+-- so many children of a block, from one on
+abbrev pub children_from : BlockId → ℕ → List BlockId
+children_from i first = map (child_of i) (range_with_len first (8 - first))
+
+abbrev pub second_child : BlockId
+second_child = child_of (root_id 1) 1
+
+-- a root, a child of the next root and a child of that one's neighbour stand in a row; the last of them is peaked
+abbrev pub chain_from_level_2 : List Leaf
+chain_from_level_2 =
+    blank (root_id 0) ∷ blank first_child ∷ peaked (child_of second_child 0)
+    ∷ map blank (children_from second_child 1 ++ children_from (root_id 1) 2)
+
+-- one root, with the finest level 4
+abbrev pub deep_root : Case
+deep_root = record (low_limit 4) { roots = record { nx = 1; ny = 1; nz = 1 } }
+
+abbrev pub deep_child : BlockId
+deep_child = child_of (child_of (root_id 0) 1) 1
+
+-- the same, one level deeper
+abbrev pub chain_from_level_3 : List Leaf
+chain_from_level_3 =
+    blank (child_of (root_id 0) 0) ∷ blank (child_of (child_of (root_id 0) 1) 0) ∷ peaked (child_of deep_child 0)
+    ∷ map blank (children_from deep_child 1 ++ (children_from (child_of (root_id 0) 1) 2 ++ children_from (root_id 0) 2))

@@ -128,3 +128,13 @@ pub fn filled_root(alloc: Global, case: &Case, root: u32) -> Result<Cells, Memor
     let first = beginning_of(case.roots, case.side, root);
     filled_cells(alloc, case.side, first, case.fills.as_slice())
 }
+
+/// Paints what a fill has of a root.
+pub fn fill_root(cells: &mut Cells, case: &Case, root: u32, fill: &Fill)
+    requires valid { IsValid case.now }
+    requires in_shape { root < root_count case.now.roots }
+    requires fill { IsFill case.now.roots case.now.side fill.now }
+    ensures { cells.new ≡ with_fill cells.old (first_cell case.now.roots case.now.side root) fill.now }
+{
+    paint(cells, beginning_of(case.roots, case.side, root), fill);
+}

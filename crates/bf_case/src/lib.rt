@@ -11,10 +11,12 @@ pub mod laws;
 mod map;
 mod neighbours;
 pub mod rows;
+mod target;
 mod validity;
 
 pub use bf_items::Items;
 pub use case::{Case, Fill};
-pub use filling::filled_root;
+pub use filling::{fill_root, filled_root};
 pub use map::Map;
 pub use neighbours::{RootCells, surround};
+pub use target::Target;

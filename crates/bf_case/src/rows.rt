@@ -4,7 +4,8 @@ ghost use Rattle.std.specs.Prelude.{◌≡◌, ℕ, [], ◌∷◌, ◌++◌, Som
 ghost use Rattle.std.specs.List.{range_with_len};
 ghost use Rattle.bf_id.specs.Id.{root_id, child_of, children_of};
 ghost use Rattle.bf_cells.specs.Grid.{spread_of};
-ghost use Rattle.bf_case.specs.Map.{ids_of, cells_at};
+ghost use Rattle.bf_case.specs.Case.{IsValid};
+ghost use Rattle.bf_case.specs.Map.{ids_of, cells_at, IsBalancedMap};
 ghost use Rattle.bf_case.specs.MapText.{map_text};
 ghost use Rattle.bf_case.specs.Model.{model};
 ghost use Rattle.bf_case.specs.Refinement.{refined_ids};
@@ -16,6 +17,8 @@ ghost use Rattle.bf_case.specs.Rows.{seven_wish_text, spotted, three_levels, thr
 ghost use Rattle.bf_case.specs.Rows.{two_levels, two_levels_text, two_roots, wishing};
 ghost use Rattle.bf_case.specs.Rows.{first_child, forced_child, low_limit, peak_of_level_1};
 ghost use Rattle.bf_case.specs.Rows.{peak_of_level_1_ids, peak_of_level_2, peak_of_level_2_ids};
+ghost use Rattle.bf_case.specs.Rows.{chain_from_level_2, chain_from_level_3, deep_child, deep_root};
+ghost use Rattle.bf_case.specs.Rows.{second_child};
 ghost use Rattle.bf_case.specs.Wishes.{wishes_of};
 
 /// A fill sets each of its cells.
@@ -66,6 +69,13 @@ pub fn a_corner_forces_refinement()
     ensures count { length (model forced 2) ≡ 92 }
 {}
 
+/// The maps of three levels are balanced maps, of a valid case.
+pub fn the_maps_of_three_levels_are_balanced()
+    ensures valid { IsValid two_roots }
+    ensures blank { IsBalancedMap two_roots three_levels }
+    ensures spotted { (place : ℕ) → IsBalancedMap two_roots (spotted place) }
+{}
+
 /// A map of three levels whose cells are all 0 loses its finest and its middle octet at once.
 pub fn octets_of_two_levels_merge_at_once()
     ensures { regrid two_roots three_levels ≡ three_levels_merged }
@@ -96,4 +106,15 @@ pub fn an_octet_with_a_forced_leaf_stays()
         refined_ids two_roots.roots (ids_of peak_of_level_2) wishes
         ≡ forced_child ∷ child_of first_child 0 ∷ [] }
     ensures ids { ids_of (regrid (low_limit 3) peak_of_level_2) ≡ peak_of_level_2_ids }
+{}
+
+/// A leaf that wishes to be refined forces the greater leaf beside it, and that one a still greater one
+/// that the first doesn't touch.
+pub fn refinement_goes_along_a_chain()
+    ensures from_level_2 { let wishes = wishes_of (low_limit 3) chain_from_level_2 in
+        refined_ids two_roots.roots (ids_of chain_from_level_2) wishes
+        ≡ root_id 0 ∷ first_child ∷ child_of second_child 0 ∷ [] }
+    ensures from_level_3 { let wishes = wishes_of deep_root chain_from_level_3 in
+        refined_ids deep_root.roots (ids_of chain_from_level_3) wishes
+        ≡ child_of (root_id 0) 0 ∷ child_of (child_of (root_id 0) 1) 0 ∷ child_of deep_child 0 ∷ [] }
 {}

@@ -20,7 +20,7 @@ use Rattle.bf_case.specs.Model.{model}
 use Rattle.bf_case.proofs.RootModel.{roots_of_model, cells_of_root}
 use Rattle.bf_case.proofs.RootSteps.{roots_are}
 use Rattle.bf_block.specs.Block.{BlockValue}
-use Rattle.bf_block.specs.Runs.{CanRun}
+use Rattle.bf_block.specs.Runs.{never_refines, CanRun}
 use Rattle.bf_parts.specs.Counts.{held_none, held_cons}
 use Rattle.bf_parts.specs.Shares.{held, once}
 use Rattle.bf_forest.specs.Gathered.{leaf_of}
@@ -168,7 +168,7 @@ module _ (c : Case) (time : ℕ) (runs : CanRun c) where
       at : (b : Bool) → nat_lt k (root_count c.roots) ≡ b → held (λ (b : BlockValue). b.id.root) blocks k ≡ once (is_in 0 (root_count c.roots) k)
       at true test =
           let below : k < root_count c.roots = grind (arith, nat_tests) in
-          let leaves = roots_are c.roots (model c time) (roots_of_model c time runs.valid runs.one_level) in
+          let leaves = roots_are c.roots (model c time) (roots_of_model c time runs.valid (never_refines runs)) in
           sym (counted_by_root blocks k (All-weaker (λ (b : BlockValue). (b.id ≡ root_id b.id.root) × (b.id.root < root_count c.roots)) (λ (b : BlockValue). b.id ≡ root_id b.id.root) (λ b is. is.0) blocks roots))
           ∙ ap (times_among blocks) (sym (leaves.1 k nothing below)) ∙ are.once k nothing (omega (arith, leaves.0, below))
           ∙ sym (within true test)
@@ -188,7 +188,7 @@ module _ (c : Case) (time : ℕ) (runs : CanRun c) where
       keys = map (λ (b : BlockValue). b.id.root) sorted
 
       leaves : (length (model c time) ≡ root_count c.roots) × ((k : ℕ) (d : Leaf) → k < root_count c.roots → (get_or (model c time) k d).0 ≡ root_id k)
-      leaves = roots_are c.roots (model c time) (roots_of_model c time runs.valid runs.one_level)
+      leaves = roots_are c.roots (model c time) (roots_of_model c time runs.valid (never_refines runs))
 
       cells : All (λ (b : BlockValue). cells_at (model c time) b.id ≡ Some b.cells) sorted
       cells = All-permutation (λ (b : BlockValue). cells_at (model c time) b.id ≡ Some b.cells) blocks sorted same are.cells
@@ -218,5 +218,5 @@ module _ (c : Case) (time : ℕ) (runs : CanRun c) where
           let root : b.id.root ≡ k = sym found.3 ∙ ap (λ xs. get_or xs k 0) all_roots ∙ (let e = get_or-range_with_len 0 (root_count c.roots) k 0 below in omega (arith, e)) in
           let id : b.id ≡ root_id k = (root_of_leaf c time b.id b.cells runs found.1).0 ∙ ap root_id root in
           let grid : b.cells ≡ grid_at (model c time) k =
-          some_grid b.cells (grid_at (model c time) k) (sym found.1 ∙ ap (cells_at (model c time)) id ∙ cells_of_root c time k runs.valid runs.one_level below) in
+          some_grid b.cells (grid_at (model c time) k) (sym found.1 ∙ ap (cells_at (model c time)) id ∙ cells_of_root c time k runs.valid (never_refines runs) below) in
           found.2 ∙ (λ j. (id j, grid j))

@@ -54,7 +54,7 @@ impl Row {
 
 fn driven(rt: &impl Abort, alloc: Global, case: Case) -> Result<World<Forest>, Memory> {
     assert!(rt; case.valid());
-    assert_eq!(rt; case.levels, 0);
+    assert_eq!(rt; case.regrid, 0);
     run(alloc, case)
 }
 
@@ -105,6 +105,20 @@ fn passes_alone_finish(rt: HostRuntime) -> Result<(), Fail> {
         TWO.case(alloc, Vec::new(alloc), Vec::new(alloc))?,
     )?;
     assert_eq!(rt; world.restores(), 0);
+    expect_leaves(&rt, alloc, &world, 2, [78, 63, 16, 1])?;
+    Ok(())
+}
+
+// Any regrid would refine each root, but none comes.
+#[test]
+fn the_finest_level_changes_nothing_without_regrids(rt: HostRuntime) -> Result<(), Fail> {
+    let alloc = rt.alloc();
+    let case = Case {
+        levels: 2,
+        refine: 0,
+        ..TWO.case(alloc, Vec::new(alloc), Vec::new(alloc))?
+    };
+    let world = driven(&rt, alloc, case)?;
     expect_leaves(&rt, alloc, &world, 2, [78, 63, 16, 1])?;
     Ok(())
 }

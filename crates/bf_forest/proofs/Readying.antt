@@ -16,7 +16,7 @@ use Rattle.bf_case.proofs.LookupLemmas.{leaf_from_cells_at}
 use Rattle.bf_case.proofs.RootModel.{model_next}
 use Rattle.bf_block.specs.declared.point.Point.{Point}
 use Rattle.bf_block.specs.Block.{BlockValue, map_at, after_regrid, kept_block}
-use Rattle.bf_block.specs.Runs.{CanRun}
+use Rattle.bf_block.specs.Runs.{never_refines, CanRun}
 use Rattle.bf_block.proofs.Steps.{model_regridded}
 use Rattle.bf_forest.specs.declared.known.Known.{Known}
 use Rattle.bf_forest.specs.declared.local.ForestLocal.{ForestLocal}
@@ -168,7 +168,7 @@ module _ (c : Case) (time : ℕ) (local : ForestLocal) (runs : CanRun c) (ready 
   all_stepped known blocks made count is same counted stepped =
       let whole : known.blocks.items ≡ all_blocks = same ∙ is in
       let after : model c (time + 1) ≡ stencil c.roots c.side (gathered c (local.blocks ++ local.heard)) =
-      model_next c time runs.valid runs.one_level ∙ ap (stencil c.roots c.side) (sym (gathered_is_model c time (local.blocks ++ local.heard) runs ready.known ready.roots)) in
+      model_next c time runs.valid (never_refines runs) ∙ ap (stencil c.roots c.side) (sym (gathered_is_model c time (local.blocks ++ local.heard) runs ready.known ready.roots)) in
       stepped
       ∙ ap (λ n. map (next_block c) (take n known.blocks.items)) counted
       ∙ ap (λ (l : List BlockValue). map (next_block c) (take (length local.blocks) l)) whole

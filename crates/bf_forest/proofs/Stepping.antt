@@ -14,9 +14,9 @@ use Rattle.bf_case.proofs.LookupLemmas.{leaf_from_cells_at}
 use Rattle.bf_case.proofs.MapLemmas.{IsRootMap-model}
 use Rattle.bf_case.proofs.RootModel.{around_is_root}
 use Rattle.bf_block.specs.declared.point.Point.{Point}
-use Rattle.bf_block.specs.Around.{HoldSamples}
+use Rattle.bf_case.specs.Beside.{HoldSamples}
 use Rattle.bf_block.specs.Block.{BlockValue, IsModels, map_at, before_regrid, after_regrid, stepped_block}
-use Rattle.bf_block.specs.Runs.{CanRun}
+use Rattle.bf_block.specs.Runs.{never_refines, CanRun}
 use Rattle.bf_block.proofs.Steps.{model_regridded}
 use Rattle.bf_block.proofs.Walls.{walls_hold}
 use Rattle.bf_forest.specs.declared.known.Known.{Known}
@@ -44,7 +44,7 @@ kept_root c time b runs is =
 -- the model's cells have the case's side
 side_of_model : (c : Case) (time : ℕ) (i : BlockId) (g : Grid) → CanRun c → cells_at (model c time) i ≡ Some g → g.side ≡ c.side
 side_of_model c time i g runs found =
-    (All-contains (HasCells c.side) (model c time) (i, g) (IsRootMap-model c time runs.valid runs.one_level).map.cells (leaf_from_cells_at (model c time) i g found)).fits
+    (All-contains (HasCells c.side) (model c time) (i, g) (IsRootMap-model c time runs.valid (never_refines runs)).map.cells (leaf_from_cells_at (model c time) i g found)).fits
 
 pub kept_side : (c : Case) (time : ℕ) (b : BlockValue) → CanRun c → IsKeptAt c time b → b.cells.side ≡ c.side
 kept_side c time b runs is = side_of_model c time b.id b.cells runs (kept_cells c time b runs is)

@@ -15,7 +15,7 @@ use Rattle.bf_case.proofs.RootSteps.{roots_are}
 use Rattle.bf_program.specs.declared.epoch.Epoch.{Epoch}
 use Rattle.bf_block.specs.declared.setup.Setup.{Setup}
 use Rattle.bf_block.specs.Setup.{case_of, every_setup_runs}
-use Rattle.bf_block.specs.Runs.{CanRun}
+use Rattle.bf_block.specs.Runs.{never_refines, CanRun}
 use Rattle.bf_block.specs.Block.{BlockValue}
 use Rattle.bf_parts.specs.Bools.{iff_same}
 use Rattle.bf_parts.specs.Counts.{count_cons}
@@ -74,7 +74,7 @@ good_leaves setup epoch round locals good = record { cells = cells; once = each_
     roots = All-weaker (IsBlockAt c time) (λ (b : BlockValue). b.id ≡ root_id b.id.root) (λ b is. (block_root c time b runs is).0) blocks are
 
     leaves : (length (model c time) ≡ root_count c.roots) × ((k : ℕ) (d : Leaf) → k < root_count c.roots → (get_or (model c time) k d).0 ≡ root_id k)
-    leaves = roots_are c.roots (model c time) (roots_of_model c time runs.valid runs.one_level)
+    leaves = roots_are c.roots (model c time) (roots_of_model c time runs.valid (never_refines runs))
 
     each_once : All (λ (leaf : Leaf). times_among blocks leaf.0 ≡ 1) (model c time)
     each_once k d within =

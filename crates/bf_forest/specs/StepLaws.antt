@@ -20,7 +20,7 @@ use Rattle.bf_case.proofs.RootModel.{roots_of_model, model_next, cells_of_root}
 use Rattle.bf_case.proofs.RootSteps.{roots_are}
 use Rattle.bf_case.specs.Around.{grid_at, nothing}
 use Rattle.bf_block.specs.declared.point.Point.{Point}
-use Rattle.bf_block.specs.Runs.{CanRun}
+use Rattle.bf_block.specs.Runs.{never_refines, CanRun}
 use Rattle.bf_block.specs.Block.{BlockValue, map_at, before_regrid}
 use Rattle.bf_forest.specs.Gathered.{leaf_of, cells_or, root_among, gathered, advanced, stepped_among}
 use Rattle.bf_forest.specs.Goods.{IsBlockAt}
@@ -40,7 +40,7 @@ root_of_leaf c time i g runs found =
     let has_id : Contains (ids_of (model c time)) i =
     Contains-map (λ (leaf : Leaf). leaf.0) (model c time) (i, g) (leaf_from_cells_at (model c time) i g found) in
     let its = Contains-from_fn_cases root_id (root_count c.roots) i
-    (subst (λ (ids : List BlockId). Contains ids i) (IsRootMap-model c time runs.valid runs.one_level).roots has_id) in
+    (subst (λ (ids : List BlockId). Contains ids i) (IsRootMap-model c time runs.valid (never_refines runs)).roots has_id) in
     let root : i.root ≡ its.0 = ap (λ (j : BlockId). j.root) its.2 in
     (its.2 ∙ ap root_id (sym root), rw root its.1)
 
@@ -95,14 +95,14 @@ pub gathered_is_model : (c : Case) (time : ℕ) (known : List BlockValue) → Ca
 unfolding gathered
 gathered_is_model c time known runs are has =
     let leaves = model c time in
-    let roots = roots_are c.roots leaves (roots_of_model c time runs.valid runs.one_level) in
+    let roots = roots_are c.roots leaves (roots_of_model c time runs.valid (never_refines runs)) in
     sym (fill_by_all (root_among known) leaves (root_count c.roots) nothing roots.0 (λ k below. same k below (roots.1 k nothing below)))
   where
     same : (k : ℕ) → k < root_count c.roots → (get_or (model c time) k nothing).0 ≡ root_id k → get_or (model c time) k nothing ≡ root_among known k
     same k below id =
         let cells : grid_at (model c time) k ≡ (root_among known k).1 =
         some_grid (grid_at (model c time) k) (root_among known k).1
-        (sym (cells_of_root c time k runs.valid runs.one_level below) ∙ root_cells c time known k runs are has below) in
+        (sym (cells_of_root c time k runs.valid (never_refines runs) below) ∙ root_cells c time known k runs are has below) in
         λ j. (id j, cells j)
 
 -- a block one step later
@@ -111,10 +111,10 @@ advanced_is c time b runs is =
     let after = stencil c.roots c.side (model c time) in
     let cells : Grid = table c.side (λ x y z. stepped_value c.roots c.side (model c time) (level_of b.id) (cell_corner c.roots c.side b.id x y z)) in
     let found : cells_at after b.id ≡ Some cells =
-    cells_at-stencil c.roots c.side (model c time) b.id b.cells (IsRootMap-model c time runs.valid runs.one_level).map (model_cells c time b is) in
+    cells_at-stencil c.roots c.side (model c time) b.id b.cells (IsRootMap-model c time runs.valid (never_refines runs)).map (model_cells c time b is) in
     let point : before_regrid (b.point.time + 1) ≡ before_regrid (time + 1) = ap (λ (p : Point). before_regrid (p.time + 1)) is.at in
     let new : cells_at (map_at c (before_regrid (time + 1))) b.id ≡ Some (cells_or (cells_at after b.id) b.cells) =
-    ap (λ (l : List Leaf). cells_at l b.id) (model_next c time runs.valid runs.one_level) ∙ found ∙ ap (λ o. Some (cells_or o b.cells)) (sym found) in
+    ap (λ (l : List Leaf). cells_at l b.id) (model_next c time runs.valid (never_refines runs)) ∙ found ∙ ap (λ o. Some (cells_or o b.cells)) (sym found) in
     record {
       of_case = is.of_case;
       at = point;

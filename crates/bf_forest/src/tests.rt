@@ -50,7 +50,7 @@ fn opened(rt: &impl Abort, alloc: Global) -> Result<(Opening, Setup), Memory>
 {
     let case = two_roots(alloc)?;
     assert!(rt; case.valid());
-    assert!(rt; case.levels == 0);
+    assert!(rt; case.regrid == 0);
     Opening::of(alloc, case)
 }
 

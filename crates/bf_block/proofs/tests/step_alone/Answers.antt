@@ -10,7 +10,7 @@ use Rattle.bf_case.specs.Map.{Leaf, cells_at}
 use Rattle.bf_case.specs.Model.{model, model_at}
 use Rattle.bf_case.proofs.RootModel.{around_is_root}
 use Rattle.bf_block.specs.declared.point.Point.{Point}
-use Rattle.bf_block.specs.Around.{HoldSamples}
+use Rattle.bf_case.specs.Beside.{HoldSamples}
 use Rattle.bf_block.specs.Block.{BlockValue, IsModels, after_regrid, map_at}
 use Rattle.bf_block.specs.Runs.{CanRun}
 use Rattle.bf_block.specs.Setup.{case_of, every_setup_runs}

@@ -1,5 +1,5 @@
 use Rattle.bf_block.proofs.BlockLemmas.{kept_id}
-use Rattle.bf_block.proofs.laws.a_regrid_of_one_level_keeps_each_block.Goals as goal
+use Rattle.bf_block.proofs.laws.where_nothing_regrids_each_block_is_kept.Goals as goal
 
 pub returns : goal.returns
 returns c = kept_id
