@@ -1,0 +1,17 @@
+pub mod AtlasLemmas
+pub mod BeginningLemmas
+pub mod MergingGrid
+pub mod Octets
+pub mod Rebuilding
+pub mod RebuildSteps
+pub mod PlaceLemmas
+pub mod MarkLemmas
+pub mod RefiningLemmas
+pub mod MergingLemmas
+pub mod TargetLemmas
+pub mod BlankLeaves
+pub mod SpotLemmas
+pub mod SiteLemmas
+pub mod LeafTexts
+pub mod StepLemmas
+pub mod RunLemmas

@@ -1,0 +1,102 @@
+-- A leaf that touches a finer one holds one of the places beside it.
+use Rattle.std.proofs.Common.{◌≡◌, ℕ, ◌+◌, ◌-◌, ◌*◌, ◌/◌, ◌%◌, ◌^◌, ◌<◌, ◌≤◌, ◌⊎◌, inl, inr, sym, subst, arith, pow_pos}
+use Rattle.std.proofs.lemmas.Nat.{mul-le}
+use Rattle.std.proofs.lemmas.Bool.{cases_eq, cases_lt}
+use Rattle.std.proofs.lemmas.Bool.Decides.{nat_tests}
+use Rattle.bf_id.specs.declared.shape.Shape.{Shape}
+use Rattle.bf_id.specs.Cube.{Cube, Spans, Holds, Meets, Meet}
+use Rattle.bf_id.specs.Shape.{IsShape, root_cube}
+use Rattle.bf_id.specs.Id.{BlockId, IsId, InShape, level_of, box_of}
+use Rattle.bf_id.proofs.Boxes.{root_in_domain, edge-box}
+use Rattle.bf_id.proofs.Cubes.{narrowed_within}
+use Rattle.bf_case.specs.Sample.{scale_of}
+use Rattle.bf_plain.specs.Places.{unit_beside, place_beside, IsPlaced}
+use Rattle.bf_plain.proofs.AtlasLemmas.{IsMultiple, OnGrid, box_on_grid, box_on_fine_grid}
+
+-- ---- along one axis
+
+-- a place is beside a stretch or in it
+beside_near : (low length end side : ℕ) → 0 < length → low + length ≤ end → (low ≤ unit_beside low length end side + 1) × (unit_beside low length end side ≤ low + length)
+beside_near low length end side some room = by (cases_eq side 0) (cases_eq side 1)
+  where
+    by : (side ≡ 0) ⊎ (side ≡ 0 → ⊥) → (side ≡ 1) ⊎ (side ≡ 1 → ⊥) → (low ≤ unit_beside low length end side + 1) × (unit_beside low length end side ≤ low + length)
+    by zero_case one_case = (grind (arith, nat_tests), grind (arith, nat_tests))
+
+-- of two multiples, one below the other with a unit more is no greater
+no_greater : (unit low other : ℕ) → 0 < unit → IsMultiple unit low → IsMultiple unit other → other < low + unit → other ≤ low
+no_greater unit low other some (a, p) (b, q) below = by (cases_lt a b)
+  where
+    by : (a < b) ⊎ (b ≤ a) → other ≤ low
+    by (inl more) =
+        let far : (a + 1) * unit ≤ b * unit = mul-le (a + 1) unit b unit (omega arith) (omega arith) in
+        absurd (omega arith)
+    by (inr less) =
+        let near : b * unit ≤ a * unit = mul-le b unit a unit less (omega arith) in
+        omega arith
+
+-- a stretch that meets another one, which is as long or shorter, has one of its places
+beside_met : (low length end other other_length : ℕ) → 0 < length → 0 < other_length → IsMultiple length low → IsMultiple length other
+    → other + other_length ≤ end → Meets low length other other_length → (side : ℕ) × (side < 3) × Spans other other_length (unit_beside low length end side)
+beside_met low length end other other_length some some_other low_is other_is inside meets = by (cases_lt low (other + other_length)) (cases_lt other (low + length))
+  where
+    by : (low < other + other_length) ⊎ (other + other_length ≤ low) → (other < low + length) ⊎ (low + length ≤ other)
+        → (side : ℕ) × (side < 3) × Spans other other_length (unit_beside low length end side)
+    by (inr before) later = (0, omega arith, omega arith)
+    by (inl above) (inr after) = (2, omega arith, omega arith)
+    by (inl above) (inl below) = (1, omega arith, (no_greater length low other some low_is other_is below, above))
+
+-- ---- in space
+
+three_sides : (a b c : ℕ) → a < 3 → b < 3 → c < 3 → let step = a + 3 * b + 9 * c in (step < 27) × (step % 3 ≡ a) × (step / 3 % 3 ≡ b) × (step / 9 ≡ c)
+three_sides a b c p q r = (omega arith, omega arith, omega arith, omega arith)
+
+-- the cube of a block of the domain
+pub box_is_placed : (shape : Shape) (i : BlockId) → IsShape shape → IsId i → InShape shape i → IsPlaced shape (box_of shape i)
+box_is_placed shape i is id in' =
+    let root = root_in_domain shape i.root is in' in
+    let within = narrowed_within i.digits (root_cube shape i.root) id.octal in
+    let edge : (box_of shape i).edge ≡ 2 ^ (4 - level_of i) = edge-box shape i (4 - level_of i) (omega (arith, id.shallow)) in
+    record {
+      some = omega (arith, edge, pow_pos (4 - level_of i));
+      along_x = omega arith;
+      along_y = omega arith;
+      along_z = omega arith;
+    }
+
+-- a cube that holds a place beside another meets it
+pub meets_from_place : (shape : Shape) (c d : Cube) (step : ℕ) → IsPlaced shape c → Holds d (place_beside shape c step) → Meet c d
+meets_from_place shape c d step placed holds =
+    let x = beside_near c.x c.edge (16 * shape.nx) (step % 3) placed.some placed.along_x in
+    let y = beside_near c.y c.edge (16 * shape.ny) (step / 3 % 3) placed.some placed.along_y in
+    let z = beside_near c.z c.edge (16 * shape.nz) (step / 9) placed.some placed.along_z in
+    record {
+      along_x = (omega (arith, holds.along_x, x), omega (arith, holds.along_x, x));
+      along_y = (omega (arith, holds.along_y, y), omega (arith, holds.along_y, y));
+      along_z = (omega (arith, holds.along_z, z), omega (arith, holds.along_z, z));
+    }
+
+-- a cube of the domain that meets another holds one of its places, if it is as great or greater
+place_from_meets : (shape : Shape) (c d : Cube) → IsPlaced shape c → IsPlaced shape d → OnGrid c.edge c → OnGrid c.edge d → Meet c d
+    → (step : ℕ) × (step < 27) × Holds d (place_beside shape c step)
+place_from_meets shape c d placed in' own other meet =
+    let x = beside_met c.x c.edge (16 * shape.nx) d.x d.edge placed.some in'.some own.x other.x in'.along_x meet.along_x in
+    let y = beside_met c.y c.edge (16 * shape.ny) d.y d.edge placed.some in'.some own.y other.y in'.along_y meet.along_y in
+    let z = beside_met c.z c.edge (16 * shape.nz) d.z d.edge placed.some in'.some own.z other.z in'.along_z meet.along_z in
+    let sides = three_sides x.0 y.0 z.0 x.1 y.1 z.1 in (
+      x.0 + 3 * y.0 + 9 * z.0,
+      sides.0,
+      record {
+        along_x = rw sides.1 x.2;
+        along_y = rw sides.2 y.2;
+        along_z = rw sides.3 z.2;
+      },
+    )
+
+pub place_from_touch : (shape : Shape) (i j : BlockId) → IsShape shape → IsId i → IsId j → InShape shape i → InShape shape j → level_of i ≤ level_of j
+    → Meet (box_of shape j) (box_of shape i) → (step : ℕ) × (step < 27) × Holds (box_of shape i) (place_beside shape (box_of shape j) step)
+place_from_touch shape i j is p q i_in j_in coarse meet =
+    let edge : (box_of shape j).edge ≡ scale_of (level_of j) = edge-box shape j (4 - level_of j) (omega (arith, q.shallow)) in
+    let other : OnGrid (box_of shape j).edge (box_of shape i) =
+    subst (λ n. OnGrid n (box_of shape i)) (sym edge) (box_on_fine_grid shape i (level_of j) coarse q.shallow) in
+    place_from_meets shape (box_of shape j) (box_of shape i) (box_is_placed shape j is q j_in) (box_is_placed shape i is p i_in)
+    (box_on_grid shape j q.shallow) other meet

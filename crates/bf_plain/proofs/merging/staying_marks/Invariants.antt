@@ -1,0 +1,11 @@
+use Rattle.std.proofs.Common.{◌≡◌, length}
+use Rattle.bf_case.specs.Map.{ids_of}
+use Rattle.bf_plain.specs.Octets.{stays_at}
+use Rattle.bf_plain.proofs.MergingLemmas.{MarksByHeld}
+use Rattle.bf_plain.proofs.merging.staying_marks.Given as goal
+
+abbrev pub invariant-loop-leaf : goal.invariant-loop-leaf
+invariant-loop-leaf l = record {
+  marks : MarksByHeld (λ p. stays_at (ids_of l.leaves) p l.level) (ids_of l.leaves) l.held l.leaf l.marks.items;
+  count : length l.marks.items ≡ l.leaf;
+}

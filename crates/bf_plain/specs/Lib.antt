@@ -1,0 +1,9 @@
+pub mod Atlas
+pub mod Beginning
+pub mod Rebuild
+pub mod Places
+pub mod Marks
+pub mod Octets
+pub mod Survey
+pub mod Step
+pub mod Runs

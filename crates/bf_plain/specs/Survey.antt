@@ -1,0 +1,51 @@
+-- A map with its chart, and the leaves across the faces of its leaves.
+use Rattle.std.specs.Prelude.{◌≡◌, ◌≢◌, ℕ, ◌+◌, ◌-◌, ◌*◌, ◌/◌, ◌<◌, ◌≤◌, List, Contains}
+use Rattle.bf_id.specs.Cube.{Cube}
+use Rattle.bf_id.specs.Face.{number_of}
+use Rattle.bf_id.specs.Id.{BlockId, box_of, level_of}
+use Rattle.bf_id.specs.declared.face.Face.{Face}
+use Rattle.bf_cells.specs.Grid.{Grid}
+use Rattle.bf_cells.specs.Shell.{Walls, wall_of}
+use Rattle.bf_case.specs.declared.case.Case.{Case}
+use Rattle.bf_case.specs.Beside.{LiesAcross}
+use Rattle.bf_case.specs.Case.{IsValid}
+use Rattle.bf_case.specs.Map.{Leaf, IsBalancedMap, ids_of}
+use Rattle.bf_plain.specs.Atlas.{Chart, Charts}
+
+-- a balanced map of a valid case, with its chart
+pub record IsCharted (c : Case) (leaves : List Leaf) (chart : Chart) : Type 0 where
+  pub valid : IsValid c
+  pub map : IsBalancedMap c leaves
+  pub charts : Charts c.roots (ids_of leaves) chart
+
+-- a leaf of such a map, with its box
+pub record IsSite (c : Case) (leaves : List Leaf) (chart : Chart) (i : BlockId) (g : Grid) (box : Cube) : Type 0 where
+  pub charted : IsCharted c leaves chart
+  pub found : Contains leaves (i, g)
+  pub boxed : box ≡ box_of c.roots i
+
+-- a leaf across the face is one level finer
+pub record IsFinerAcross (c : Case) (leaves : List Leaf) (i : BlockId) (g : Grid) (face : Face) : Type 0 where
+  pub other : Leaf
+  pub lies : LiesAcross c.roots c.side leaves (i, g) face 0 0 other
+  pub finer : level_of other.0 ≡ level_of i + 1
+
+-- along one axis, as which half of a stretch that begins at `whole` one of this length lies
+abbrev pub half_of : ℕ → ℕ → ℕ → ℕ
+half_of whole low length = (low - whole) / length
+
+-- it is one of the two halves
+pub record IsHalf (whole low length : ℕ) : Type 0 where
+  pub after : whole ≤ low
+  pub bit : half_of whole low length < 2
+  pub exact : low ≡ whole + half_of whole low length * length
+
+-- the cube ends where the widest domain does, or before
+pub record IsNarrow (c : Cube) : Type 0 where
+  pub along_x : c.x + c.edge ≤ 256
+  pub along_y : c.y + c.edge ≤ 256
+  pub along_z : c.z + c.edge ≤ 256
+
+-- the squares of the other faces stay
+abbrev pub KeepsOthers : Walls → Walls → Face → Type 0
+KeepsOthers old new face = (other : Face) → other ≢ face → wall_of new (number_of other) ≡ wall_of old (number_of other)

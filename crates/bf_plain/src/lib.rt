@@ -1,0 +1,27 @@
+//! The plain run: one map at a time, stepped and regridded by one process, with no ranks and no
+//! messages. Each call gives exactly what the model says.
+#![tactic(auto)]
+
+mod atlas;
+mod beginning;
+mod copies;
+mod faces;
+mod marks;
+mod merging;
+mod places;
+mod rebuild;
+mod refining;
+mod regridding;
+mod run;
+mod step;
+mod targets;
+#[cfg(test)]
+mod tests;
+mod walls;
+mod writer;
+
+pub use bf_edge::Memory;
+pub use regridding::regridded;
+pub use run::one_run;
+pub use step::stepped;
+pub use writer::{Printed, write_end, write_leaf, write_map};

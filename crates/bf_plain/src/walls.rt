@@ -1,0 +1,139 @@
+//! The walls around a leaf: what lies next to its faces, in leaves of its level and of the levels beside it.
+ghost use Rattle.std.specs.Prelude.{◌≡◌, ℕ, ◌+◌, ◌-◌, ◌*◌, ◌/◌, ◌%◌, ◌<◌, ◌≤◌, length, Contains};
+ghost use Rattle.bf_id.specs.Cube.{Holds};
+ghost use Rattle.bf_id.specs.Face.{number_of, opposite_of};
+ghost use Rattle.bf_id.specs.Id.{box_of, level_of};
+ghost use Rattle.bf_id.specs.Shape.{InDomain};
+ghost use Rattle.bf_cells.specs.Levels.{doubled_face};
+ghost use Rattle.bf_cells.specs.Shell.{with_wall};
+ghost use Rattle.bf_case.specs.Beside.{first_low, second_low, HoldsBeside, HoldSamples, IsAtEdge};
+ghost use Rattle.bf_plain.specs.Survey.{half_of, IsCharted, IsFinerAcross, IsHalf, IsSite, KeepsOthers};
+
+use crate::atlas::{Atlas, Voxel};
+use crate::faces::face_at;
+use crate::places::Block;
+use bf_case::Case;
+use bf_cells::{Cells, Shell};
+use bf_id::{Face, Id};
+
+/// The leaves of a map, with their atlas.
+#[derive(Clone, Copy)]
+pub(crate) struct Survey<'a> {
+    pub case: &'a Case,
+    pub leaves: &'a [(Id, Cells)],
+    pub atlas: &'a Atlas,
+}
+
+/// A leaf of a map, with its box.
+#[derive(Clone, Copy)]
+pub(crate) struct Site<'a> {
+    pub id: Id,
+    pub cells: &'a Cells,
+    pub block: Block,
+}
+
+/// Lays next to a face of a block the quarter that lies across it of a leaf one level coarser.
+fn lay_coarser(shell: &mut Shell, block: Block, face: Face, whole: Block, cells: &Cells)
+    requires some { 0 < block.edge }
+    requires first { IsHalf (first_low face whole) (first_low face block) block.edge }
+    requires second { IsHalf (second_low face whole) (second_low face block) block.edge }
+    requires sides { cells.now.side ≡ shell.old.side }
+    ensures wall { shell.new ≡ with_wall shell.old (number_of face) (doubled_face cells.now (number_of (opposite_of face))
+        (half_of (first_low face whole) (first_low face block) block.edge)
+        (half_of (second_low face whole) (second_low face block) block.edge)) }
+    ensures side { shell.new.side ≡ shell.old.side }
+{
+    let half_a = (block.first_low(face) - whole.first_low(face)) / block.edge;
+    let half_b = (block.second_low(face) - whole.second_low(face)) / block.edge;
+    shell.set_wall_doubled(
+        face.number(),
+        cells,
+        face.opposite().number(),
+        half_a,
+        half_b,
+    );
+}
+
+impl<'a> Survey<'a> {
+    /// The leaf that has a unit.
+    fn leaf_with(self, unit: Voxel) -> &'a (Id, Cells)
+        requires charted { IsCharted self.case.now self.leaves.now self.atlas.now }
+        requires inside { InDomain self.case.now.roots unit }
+        ensures found { Contains self.entry.leaves.now result.now }
+        ensures holds { Holds (box_of self.entry.case.now.roots result.now.0) unit }
+    {
+        &self.leaves[self.atlas.leaf_at(unit)]
+    }
+
+    /// Lays next to a face of a leaf the means of the four leaves across it, which are one level finer.
+    fn lay_finer(self, shell: &mut Shell, site: &Site<'_>, face: Face)
+        requires site { IsSite self.case.now self.leaves.now self.atlas.now site.now.id site.now.cells.now site.now.block }
+        requires finer { IsFinerAcross self.case.now self.leaves.now site.now.id site.now.cells.now face }
+        requires side { shell.old.side ≡ self.case.now.side }
+        ensures face { HoldsBeside self.entry.case.now.roots self.entry.leaves.now site.now.id site.now.cells.now shell.new face }
+        ensures others { KeepsOthers shell.old shell.new face }
+        ensures side { shell.new.side ≡ shell.old.side }
+    {
+        for quarter in 0..4 {
+            let half_a = quarter % 2;
+            let half_b = quarter / 2;
+            let unit = site.block.across_quarter(face, half_a, half_b);
+            let (_, cells) = self.leaf_with(unit);
+            shell.set_quarter_means(
+                face.number(),
+                half_a,
+                half_b,
+                cells,
+                face.opposite().number(),
+            );
+        }
+    }
+
+    /// Lays what lies across a face of a leaf, which isn't at the domain's edge.
+    fn lay_across(self, shell: &mut Shell, site: &Site<'_>, face: Face)
+        requires site { IsSite self.case.now self.leaves.now self.atlas.now site.now.id site.now.cells.now site.now.block }
+        requires inner { IsAtEdge self.case.now.roots site.now.block face → ⊥ }
+        requires side { shell.old.side ≡ self.case.now.side }
+        ensures face { HoldsBeside self.entry.case.now.roots self.entry.leaves.now site.now.id site.now.cells.now shell.new face }
+        ensures others { KeepsOthers shell.old shell.new face }
+        ensures side { shell.new.side ≡ shell.old.side }
+    {
+        let unit = site.block.across(face, 0, 0);
+        let (other, cells) = self.leaf_with(unit);
+        if other.level() > site.id.level() {
+            self.lay_finer(shell, site, face);
+        } else if other.level() < site.id.level() {
+            let whole = Block::of(*other, self.case.roots);
+            lay_coarser(shell, site.block, face, whole, cells);
+        } else {
+            shell.set_wall(face.number(), cells, face.opposite().number());
+        }
+    }
+
+    /// Lays what lies next to a face of a leaf: what lies across it, or at the domain's edge the leaf's own cells.
+    fn lay_face(self, shell: &mut Shell, site: &Site<'_>, face: Face)
+        requires site { IsSite self.case.now self.leaves.now self.atlas.now site.now.id site.now.cells.now site.now.block }
+        requires side { shell.old.side ≡ self.case.now.side }
+        ensures face { HoldsBeside self.entry.case.now.roots self.entry.leaves.now site.now.id site.now.cells.now shell.new face }
+        ensures others { KeepsOthers shell.old shell.new face }
+        ensures side { shell.new.side ≡ shell.old.side }
+    {
+        if site.block.is_at_edge(self.case.roots, face) {
+            shell.set_wall(face.number(), site.cells, face.number());
+        } else {
+            self.lay_across(shell, site, face);
+        }
+    }
+
+    /// Lays what lies next to all faces of a leaf.
+    pub(crate) fn surround(self, shell: &mut Shell, site: &Site<'_>)
+        requires site { IsSite self.case.now self.leaves.now self.atlas.now site.now.id site.now.cells.now site.now.block }
+        requires side { shell.old.side ≡ self.case.now.side }
+        ensures samples { HoldSamples self.entry.case.now.roots self.entry.leaves.now site.now.id site.now.cells.now shell.new }
+        ensures side { shell.new.side ≡ shell.old.side }
+    {
+        for number in 0..6 {
+            self.lay_face(shell, site, face_at(number));
+        }
+    }
+}

@@ -1,0 +1,320 @@
+//! Writing leaves and maps as text.
+ghost use Rattle.std.specs.Prelude.{◌≡◌, [], ◌∷◌, ◌*◌, ◌≤◌, ◌++◌, length, codes, decimal, flat_map, map, OnOk, OnErr};
+ghost use Rattle.bf_edge.specs.Faults.{Rose};
+ghost use Rattle.bf_edge.specs.Page.{Puts};
+ghost use Rattle.bf_edge.specs.Sink.{appended, AppendsPrefix};
+ghost use Rattle.bf_id.specs.IdText.{text_of};
+ghost use Rattle.bf_case.specs.CaseText.{spaced};
+ghost use Rattle.bf_case.specs.MapText.{row_text, grid_text, leaf_text, map_text};
+
+use bf_cells::Cells;
+use bf_edge::{Failed, Page, Sink, flush, put, put_number, put_numbers, write_all};
+use bf_id::Id;
+
+/// What is written as a leaf.
+pub trait Printed {
+    ghost use Rattle.std.specs.Prelude.{◌≡◌};
+    ghost use Rattle.bf_case.specs.Map.{Leaf};
+
+    ghost leaf: { Self → Leaf };
+
+    /// Its id.
+    fn id(&self) -> Id
+        ensures { result ≡ (leaf self.now).0 };
+
+    /// Its cells.
+    fn cells(&self) -> &Cells
+        ensures { result.now ≡ (leaf self.now).1 };
+}
+
+impl Printed for (Id, Cells) {
+    ghost leaf = { λ leaf. leaf };
+
+    fn id(&self) -> Id {
+        self.0
+    }
+
+    fn cells(&self) -> &Cells {
+        &self.1
+    }
+}
+
+// A number, each of the rest after a blank, and the line feed.
+fn put_line<W: Sink>(sink: &mut W, page: &mut Page, first: u32, rest: &[u32]) -> Result<(), Failed>
+    ensures puts { OnOk result (Puts (W.written sink.old) (W.written sink.new) page.old page.new (decimal first ++ (spaced rest.now ++ 10 ∷ []))) }
+    ensures steady { OnOk result (W.faults sink.new ≡ W.faults sink.old) }
+
+    ensures rose { OnErr result (Rose (W.faults sink.old) (W.faults sink.new)) }
+    ensures prefix { OnErr result (AppendsPrefix (W.written sink.old) (W.written sink.new) (page.old ++ (decimal first ++ (spaced rest.now ++ 10 ∷ [])))) }
+    ensures never_falls { W.faults sink.old ≤ W.faults sink.new }
+{
+    put_number(sink, page, first)?;
+    put_numbers(sink, page, rest)?;
+    put(sink, page, b"\n")
+}
+
+// The numbers with one blank between, and the line feed.
+fn put_row<W: Sink>(sink: &mut W, page: &mut Page, values: &[u32]) -> Result<(), Failed>
+    ensures puts { OnOk result (Puts (W.written sink.old) (W.written sink.new) page.old page.new (row_text values.now)) }
+    ensures steady { OnOk result (W.faults sink.new ≡ W.faults sink.old) }
+
+    ensures rose { OnErr result (Rose (W.faults sink.old) (W.faults sink.new)) }
+    ensures prefix { OnErr result (AppendsPrefix (W.written sink.old) (W.written sink.new) (page.old ++ (row_text values.now))) }
+    ensures never_falls { W.faults sink.old ≤ W.faults sink.new }
+{
+    match values {
+        [] => put(sink, page, b"\n"),
+        [first, rest @ ..] => put_line(sink, page, *first, rest),
+    }
+}
+
+// A cube of values, with one line for each row along x.
+fn put_rows<W: Sink>(
+    sink: &mut W,
+    page: &mut Page,
+    side: usize,
+    values: &[u32],
+) -> Result<(), Failed>
+    requires small { side ≤ 16 }
+    requires full { length values.now ≡ side * side * side }
+    ensures puts { OnOk result (Puts (W.written sink.old) (W.written sink.new) page.old page.new (grid_text (record { side = side; values = values.now }))) }
+    ensures steady { OnOk result (W.faults sink.new ≡ W.faults sink.old) }
+
+    ensures rose { OnErr result (Rose (W.faults sink.old) (W.faults sink.new)) }
+    ensures prefix { OnErr result (AppendsPrefix (W.written sink.old) (W.written sink.new) (page.old ++ (grid_text (record { side = side; values = values.now })))) }
+    ensures never_falls { W.faults sink.old ≤ W.faults sink.new }
+{
+    for row in 0..side * side {
+        let from = side * row;
+        put_row(sink, page, &values[from..from + side])?;
+    }
+    Ok(())
+}
+
+// The cells, with one line for each row along x.
+fn put_grid<W: Sink>(sink: &mut W, page: &mut Page, cells: &Cells) -> Result<(), Failed>
+    ensures puts { OnOk result (Puts (W.written sink.old) (W.written sink.new) page.old page.new (grid_text cells.now)) }
+    ensures steady { OnOk result (W.faults sink.new ≡ W.faults sink.old) }
+
+    ensures rose { OnErr result (Rose (W.faults sink.old) (W.faults sink.new)) }
+    ensures prefix { OnErr result (AppendsPrefix (W.written sink.old) (W.written sink.new) (page.old ++ (grid_text cells.now))) }
+    ensures never_falls { W.faults sink.old ≤ W.faults sink.new }
+{
+    put_rows(sink, page, cells.side() as usize, cells.values())
+}
+
+// The id's text.
+fn put_id<W: Sink>(sink: &mut W, page: &mut Page, id: Id) -> Result<(), Failed>
+    ensures puts { OnOk result (Puts (W.written sink.old) (W.written sink.new) page.old page.new (text_of id)) }
+    ensures steady { OnOk result (W.faults sink.new ≡ W.faults sink.old) }
+
+    ensures rose { OnErr result (Rose (W.faults sink.old) (W.faults sink.new)) }
+    ensures prefix { OnErr result (AppendsPrefix (W.written sink.old) (W.written sink.new) (page.old ++ (text_of id))) }
+    ensures never_falls { W.faults sink.old ≤ W.faults sink.new }
+{
+    put(sink, page, id.text().bytes())
+}
+
+// The line with a leaf's id.
+fn put_head<W: Sink>(sink: &mut W, page: &mut Page, id: Id) -> Result<(), Failed>
+    ensures puts { OnOk result (Puts (W.written sink.old) (W.written sink.new) page.old page.new (codes "block " ++ (text_of id ++ 10 ∷ []))) }
+    ensures steady { OnOk result (W.faults sink.new ≡ W.faults sink.old) }
+
+    ensures rose { OnErr result (Rose (W.faults sink.old) (W.faults sink.new)) }
+    ensures prefix { OnErr result (AppendsPrefix (W.written sink.old) (W.written sink.new) (page.old ++ (codes "block " ++ (text_of id ++ 10 ∷ [])))) }
+    ensures never_falls { W.faults sink.old ≤ W.faults sink.new }
+{
+    put(sink, page, b"block ")?;
+    put_id(sink, page, id)?;
+    put(sink, page, b"\n")
+}
+
+// The line with an id, and cells.
+fn put_leaf<W: Sink>(sink: &mut W, page: &mut Page, id: Id, cells: &Cells) -> Result<(), Failed>
+    ensures puts { OnOk result (Puts (W.written sink.old) (W.written sink.new) page.old page.new (leaf_text (id, cells.now))) }
+    ensures steady { OnOk result (W.faults sink.new ≡ W.faults sink.old) }
+
+    ensures rose { OnErr result (Rose (W.faults sink.old) (W.faults sink.new)) }
+    ensures prefix { OnErr result (AppendsPrefix (W.written sink.old) (W.written sink.new) (page.old ++ (leaf_text (id, cells.now)))) }
+    ensures never_falls { W.faults sink.old ≤ W.faults sink.new }
+{
+    put_head(sink, page, id)?;
+    put_grid(sink, page, cells)
+}
+
+// The same of whatever has a leaf.
+fn put_printed<W: Sink, L: Printed>(sink: &mut W, page: &mut Page, leaf: &L) -> Result<(), Failed>
+    ensures puts { OnOk result (Puts (W.written sink.old) (W.written sink.new) page.old page.new (leaf_text (L.leaf leaf.now))) }
+    ensures steady { OnOk result (W.faults sink.new ≡ W.faults sink.old) }
+
+    ensures rose { OnErr result (Rose (W.faults sink.old) (W.faults sink.new)) }
+    ensures prefix { OnErr result (AppendsPrefix (W.written sink.old) (W.written sink.new) (page.old ++ (leaf_text (L.leaf leaf.now)))) }
+    ensures never_falls { W.faults sink.old ≤ W.faults sink.new }
+{
+    put_leaf(sink, page, leaf.id(), leaf.cells())
+}
+
+// Every leaf in its order.
+fn put_leaves<W: Sink, L: Printed>(
+    sink: &mut W,
+    page: &mut Page,
+    leaves: &[L],
+) -> Result<(), Failed>
+    ensures puts { OnOk result (Puts (W.written sink.old) (W.written sink.new) page.old page.new (flat_map leaf_text (map L.leaf leaves.now))) }
+    ensures steady { OnOk result (W.faults sink.new ≡ W.faults sink.old) }
+
+    ensures rose { OnErr result (Rose (W.faults sink.old) (W.faults sink.new)) }
+    ensures prefix { OnErr result (AppendsPrefix (W.written sink.old) (W.written sink.new) (page.old ++ (flat_map leaf_text (map L.leaf leaves.now)))) }
+    ensures never_falls { W.faults sink.old ≤ W.faults sink.new }
+{
+    for leaf in leaves {
+        put_printed(sink, page, leaf)?;
+    }
+    Ok(())
+}
+
+// Every leaf in its order, and the last line.
+fn put_map<W: Sink, L: Printed>(sink: &mut W, page: &mut Page, leaves: &[L]) -> Result<(), Failed>
+    ensures puts { OnOk result (Puts (W.written sink.old) (W.written sink.new) page.old page.new (map_text (map L.leaf leaves.now))) }
+    ensures steady { OnOk result (W.faults sink.new ≡ W.faults sink.old) }
+
+    ensures rose { OnErr result (Rose (W.faults sink.old) (W.faults sink.new)) }
+    ensures prefix { OnErr result (AppendsPrefix (W.written sink.old) (W.written sink.new) (page.old ++ (map_text (map L.leaf leaves.now)))) }
+    ensures never_falls { W.faults sink.old ≤ W.faults sink.new }
+{
+    put_leaves(sink, page, leaves)?;
+    put(sink, page, b"end\n")
+}
+
+// A leaf, through a page where nothing waits.
+fn write_leaf_through<W: Sink>(
+    sink: &mut W,
+    page: &mut Page,
+    id: Id,
+    cells: &Cells,
+) -> Result<(), Failed>
+    requires { page.old ≡ [] }
+    ensures all { OnOk result (W.written sink.new ≡ appended (W.written sink.old) (leaf_text (id, cells.now))) }
+    ensures steady { OnOk result (W.faults sink.new ≡ W.faults sink.old) }
+
+    ensures rose { OnErr result (Rose (W.faults sink.old) (W.faults sink.new)) }
+    ensures prefix { OnErr result (AppendsPrefix (W.written sink.old) (W.written sink.new) (leaf_text (id, cells.now))) }
+    ensures never_falls { W.faults sink.old ≤ W.faults sink.new }
+{
+    put_leaf(sink, page, id, cells)?;
+    flush(sink, page)
+}
+
+// A map, through a page where nothing waits.
+fn write_map_through<W: Sink, L: Printed>(
+    sink: &mut W,
+    page: &mut Page,
+    leaves: &[L],
+) -> Result<(), Failed>
+    requires { page.old ≡ [] }
+    ensures all { OnOk result (W.written sink.new ≡ appended (W.written sink.old) (map_text (map L.leaf leaves.now))) }
+    ensures steady { OnOk result (W.faults sink.new ≡ W.faults sink.old) }
+
+    ensures rose { OnErr result (Rose (W.faults sink.old) (W.faults sink.new)) }
+    ensures prefix { OnErr result (AppendsPrefix (W.written sink.old) (W.written sink.new) (map_text (map L.leaf leaves.now))) }
+    ensures never_falls { W.faults sink.old ≤ W.faults sink.new }
+{
+    put_map(sink, page, leaves)?;
+    flush(sink, page)
+}
+
+/// Writes a leaf: the line with its id, and a line for each row of its cells along x. No byte of it waits afterwards. Where
+/// the sink fails, a front of the text was written.
+pub fn write_leaf<W: Sink>(sink: &mut W, id: Id, cells: &Cells) -> Result<(), Failed>
+    ensures all { OnOk result (W.written sink.new ≡ appended (W.written sink.old) (leaf_text (id, cells.now))) }
+    ensures steady { OnOk result (W.faults sink.new ≡ W.faults sink.old) }
+
+    ensures rose { OnErr result (Rose (W.faults sink.old) (W.faults sink.new)) }
+    ensures prefix { OnErr result (AppendsPrefix (W.written sink.old) (W.written sink.new) (leaf_text (id, cells.now))) }
+    ensures never_falls { W.faults sink.old ≤ W.faults sink.new }
+{
+    write_leaf_through(sink, &mut Page::new(), id, cells)
+}
+
+/// Writes the line that follows the last leaf of a map.
+pub fn write_end<W: Sink>(sink: &mut W) -> Result<(), Failed>
+    ensures all { OnOk result (W.written sink.new ≡ appended (W.written sink.old) (codes "end\n")) }
+    ensures steady { OnOk result (W.faults sink.new ≡ W.faults sink.old) }
+
+    ensures rose { OnErr result (Rose (W.faults sink.old) (W.faults sink.new)) }
+    ensures prefix { OnErr result (AppendsPrefix (W.written sink.old) (W.written sink.new) (codes "end\n")) }
+    ensures never_falls { W.faults sink.old ≤ W.faults sink.new }
+{
+    write_all(sink, b"end\n")
+}
+
+/// Writes every leaf in its order, as [`write_leaf`] does, and the last line, in as few calls of the sink as pages are
+/// filled.
+pub fn write_map<W: Sink, L: Printed>(sink: &mut W, leaves: &[L]) -> Result<(), Failed>
+    ensures all { OnOk result (W.written sink.new ≡ appended (W.written sink.old) (map_text (map L.leaf leaves.now))) }
+    ensures steady { OnOk result (W.faults sink.new ≡ W.faults sink.old) }
+
+    ensures rose { OnErr result (Rose (W.faults sink.old) (W.faults sink.new)) }
+    ensures prefix { OnErr result (AppendsPrefix (W.written sink.old) (W.written sink.new) (map_text (map L.leaf leaves.now))) }
+    ensures never_falls { W.faults sink.old ≤ W.faults sink.new }
+{
+    write_map_through(sink, &mut Page::new(), leaves)
+}
+
+#[cfg(test)]
+mod tests {
+    use super::*;
+    use bf_edge::{MemSink, Memory};
+    use std::alloc::Global;
+    use std::process::Abort;
+    use std::test::Fail;
+
+    // A cube of side 2: the low layer in rows, and the first cell of the high one.
+    fn cube(rt: &impl Abort, alloc: Global, values: [u32; 5]) -> Result<Cells, Memory> {
+        let mut cells = Cells::filled(alloc, 2, 0)?;
+        assert_eq!(rt; cells.side(), 2);
+        cells.put(0, 0, 0, values[0]);
+        cells.put(1, 0, 0, values[1]);
+        cells.put(0, 1, 0, values[2]);
+        cells.put(1, 1, 0, values[3]);
+        cells.put(0, 0, 1, values[4]);
+        Ok(cells)
+    }
+
+    #[test]
+    fn a_leaf_is_written_in_one_call(rt: HostRuntime) -> Result<(), Fail> {
+        let cells = cube(&rt, rt.alloc(), [5, 1, 1, 0, 1])?;
+        let mut sink = MemSink::new(rt.alloc(), 64, 64, [2].to_vec(rt.alloc())?)?;
+        assert_eq!(rt; write_leaf(&mut sink, Id::root_of(0), &cells), Ok(()));
+        assert_eq!(rt; write_end(&mut sink), Err(Failed));
+        assert_eq!(rt; write_end(&mut sink), Ok(()));
+        assert_eq!(rt;
+            sink.written(),
+            b"block 0\n5 1\n1 0\n1 0\n0 0\nend\n".as_slice()
+        );
+        Ok(())
+    }
+
+    #[test]
+    fn leaves_are_written_byte_by_byte(rt: HostRuntime) -> Result<(), Fail> {
+        let low = cube(&rt, rt.alloc(), [1, 2, 3, 4, 0])?;
+        let high = cube(&rt, rt.alloc(), [10, 0, 0, 0, 4294967295])?;
+        let leaves = vec![in rt.alloc(); (Id::root_of(0).child(3), low), (Id::root_of(1), high)]?;
+        let mut sink = MemSink::new(rt.alloc(), 1, 128, Vec::new(rt.alloc()))?;
+        assert_eq!(rt; write_map(&mut sink, &leaves), Ok(()));
+        let want = b"block 0.3\n1 2\n3 4\n0 0\n0 0\nblock 1\n10 0\n0 0\n4294967295 0\n0 0\nend\n";
+        assert_eq!(rt; sink.written(), want.as_slice());
+        Ok(())
+    }
+
+    #[test]
+    fn a_failure_ends_writing(rt: HostRuntime) -> Result<(), Fail> {
+        let cells = cube(&rt, rt.alloc(), [5, 1, 1, 0, 1])?;
+        let leaves = vec![in rt.alloc(); (Id::root_of(0), cells)]?;
+        let mut sink = MemSink::new(rt.alloc(), 1, 64, [2].to_vec(rt.alloc())?)?;
+        assert_eq!(rt; write_map(&mut sink, &leaves), Err(Failed));
+        assert_eq!(rt; sink.written(), b"b".as_slice());
+        assert_eq!(rt; sink.faults(), 1);
+        Ok(())
+    }
+}
