@@ -1,13 +1,14 @@
 -- Why an answer comes, and what it tells.
-use Rattle.std.proofs.Common.{◌≡◌, ◌⊎◌, ℕ, ◌+◌, ◌<◌, List, [], ◌∷◌, Option, Some, None, IfSome, length, take, inl, inr, refl, sym, ◌∙◌, ap, subst, arith, lit<}
+use Rattle.std.proofs.Common.{◌≡◌, ℕ, ◌+◌, ◌<◌, Bool, true, false, cond, eqb, Result, Ok, Err, List, [], ◌∷◌, Option, Some, None, IfSome, length, take, inl, inr, refl, sym, ◌∙◌, ap, subst, arith, lit<}
 use Rattle.std.proofs.lemmas.List.{take_all, length-take}
-use Rattle.std.proofs.lemmas.Bool.{cases_lt}
+use Rattle.std.specs.Prelude.{IsTrue}
+use Rattle.std.proofs.lemmas.Bool.{and_parts, cases_lt, eqb-true, lt-ltb}
 use Rattle.bf_edge.specs.Faults.{Rose}
 use Rattle.bf_edge.specs.Sink.{appended}
 use Rattle.bf_edge.specs.Source.{left_after}
 use Rattle.bf_case.specs.declared.case.Case.{Case}
+use Rattle.bf_case.specs.Case.{IsValid}
 use Rattle.bf_case.specs.MapText.{map_text}
-use Rattle.bf_case.specs.Reading.{input_limit, Spells, SpellsNone, IsRefused, IsServed, IsServedByRanks, too_long, not_built}
 use Rattle.bf_block.specs.Setup.{case_of}
 use Rattle.bf_core.specs.declared.outcome.Outcome.TheVariants.{Finished}
 use Rattle.bf_cli.specs.declared.command.Command.{Command}
@@ -16,85 +17,96 @@ use Rattle.bf_cli.specs.declared.status.Status.{Status}
 use Rattle.bf_cli.specs.declared.status.Status.TheVariants as status
 use Rattle.bf_cli.specs.declared.answer.Answer.{Answer}
 use Rattle.bf_cli.specs.declared.answer.Answer.TheVariants as answers
-use Rattle.bf_cli.specs.Answers.{status_line, model_text, IsAmong, IsLine, IsWorldOf, HandsOut, HasFinished, OnRefused, PrintsModel, IsAnswerOf, IsAnswer, no_command, of_command, Tells, WasRead, WroteModel, IsDone}
-use Rattle.bf_cli.specs.Commands.{words_of, IsCommand, IsUsage, Serves}
+use Rattle.bf_cli.specs.Answers.{status_line, model_text, IsModelText, IsAmong, IsLine, IsWorldOf, HandsOut, HasFinished, OnRefused, PrintsModel, IsAnswerOf, IsAnswer, no_command, of_command, Tells, WasRead, WroteModel, IsDone}
+use Rattle.bf_text.specs.declared.code.Refusal.{Refusal}
+use Rattle.bf_text.specs.Codes.{number_of}
+use Rattle.bf_text.specs.Reading.{input_limit, reading}
+use Rattle.bf_cli.specs.declared.input.Input.TheVariants as input
+use Rattle.bf_cli.specs.Commands.{words_of, IsCommand, IsUsage, serves}
+use Rattle.bf_cli.specs.Inputs.{if_served, input_of, input_for, Accepts, Refuses}
 use Rattle.bf_cli.specs.Driven.{ForestWorld, HasRun, outcome_of}
-use Rattle.bf_cli.specs.Told.{meant_by, world_in, IsMeant, IsMeantBy, IsAnswerFor, IsAnswerTo, IsSourceAnswer, IsCaused, IsTellable, usage, by_command}
-use Rattle.bf_cli.proofs.Texts.{same_served}
+use Rattle.bf_cli.specs.Told.{meant_by, world_in, IsMeant, IsMeantBy, IsAnswerFor, IsAnswerTo, IsSourceAnswer, IsCaused, usage, by_command}
+
+-- ---- what a command makes of bytes
+
+-- what a command runs is spelled and served
+pub record IsServed (command : Command) (bytes : List ℕ) (c : Case) : Type 0 where
+  pub spelled : reading bytes ≡ Ok c
+  pub served : IsTrue (serves command c)
+
+served_case : (command : Command) (c d : Case) (b : Bool) → serves command d ≡ b → if_served command d ≡ input.Accepted c → (d ≡ c) × IsTrue (serves command c)
+served_case command c d true is accepted =
+    let same : input.Accepted d ≡ input.Accepted c = sym (ap (λ t. cond t (input.Accepted d) (input.Refused 0 99)) is) ∙ accepted in
+    let its : d ≡ c = cc in (its, subst (λ k. IsTrue (serves command k)) its is)
+served_case command c d false is accepted =
+    absurd (let no : input.Refused 0 99 ≡ input.Accepted c = sym (ap (λ t. cond t (input.Accepted d) (input.Refused 0 99)) is) ∙ accepted in cc)
+
+served_spelled : (command : Command) (bytes : List ℕ) (c : Case) (spelled : Result Case Refusal) → reading bytes ≡ spelled → input_of command spelled ≡ input.Accepted c
+    → IsServed command bytes c
+served_spelled command bytes c (Ok d) is accepted =
+    let both = served_case command c d (serves command d) refl accepted in
+    record { spelled = is ∙ ap (λ k. Ok k) both.0; served = both.1 }
+served_spelled command bytes c (Err refusal) is accepted =
+    absurd (let no : input.Refused refusal.line (number_of refusal.code) ≡ input.Accepted c = accepted in cc)
+
+pub served : (command : Command) (bytes : List ℕ) (c : Case) → Accepts command bytes c → IsServed command bytes c
+served command bytes c accepted = served_spelled command bytes c (reading bytes) refl accepted
+
+pub no_regrid : (command : Command) (c : Case) → command ≡ commands.Drive → IsTrue (serves command c) → c.regrid ≡ 0
+no_regrid command c is served = eqb-true c.regrid 0 (and_parts (eqb c.regrid 0) _ (subst (λ k. IsTrue (serves k c)) is served)).0
+
+accepted_alike : (command : Command) (bytes : List ℕ) (c d : Case) → Accepts command bytes c → Accepts command bytes d → c ≡ d
+accepted_alike command bytes c d p q = let same : input.Accepted c ≡ input.Accepted d = sym p ∙ q in cc
+
+refused_alike : (command : Command) (bytes : List ℕ) (line code l k : ℕ) → Refuses command bytes line code → Refuses command bytes l k
+    → status.Refused line code ≡ status.Refused l k
+refused_alike command bytes line code l k p q = let same : input.Refused line code ≡ input.Refused l k = sym p ∙ q in cc
+
+-- bytes that are refused are not run
+refused_runs_none : (command : Command) (bytes : List ℕ) (line code : ℕ) (c : Case) → Refuses command bytes line code → Accepts command bytes c → ⊥
+refused_runs_none command bytes line code c p q = absurd (let no : input.Refused line code ≡ input.Accepted c = sym p ∙ q in cc)
 
 -- ---- from the bytes read to all that the source had
 
--- the front of an input is the whole of it, or both are too long
-front_cases : (all bytes : List ℕ) → bytes ≡ take (input_limit + 1) all → (bytes ≡ all) ⊎ ((input_limit < length bytes) × (input_limit < length all))
-front_cases all bytes e =
+-- the front of an input is the whole of it, or both are too long: they are read alike
+front_reads_alike : (all bytes : List ℕ) → bytes ≡ take (input_limit + 1) all → reading bytes ≡ reading all
+front_reads_alike all bytes e =
     elim (cases_lt input_limit (length all)) [
-      | inl long ↦ inr (omega (arith, ap length e, length-take (input_limit + 1) all), long)
-      | inr short ↦ inl (e ∙ take_all (input_limit + 1) all (omega arith))
+      | inl long ↦
+          let short_too : input_limit < length bytes = omega (arith, ap length e, length-take (input_limit + 1) all) in
+          rw (lt-ltb input_limit (length bytes) short_too, lt-ltb input_limit (length all) long) refl
+      | inr short ↦ ap reading (e ∙ take_all (input_limit + 1) all (omega arith))
     ]
 
-module _ (P : Case → Type 0) where
-  spells_of_front : (all bytes : List ℕ) (c : Case) → bytes ≡ take (input_limit + 1) all → Spells P bytes c → bytes ≡ all
-  spells_of_front all bytes c e spells =
-      elim (front_cases all bytes e) [ inl same ↦ same | inr long ↦ absurd (omega (arith, spells.short)) ]
-
-  refused_of_front : (all bytes : List ℕ) (line code : ℕ) → bytes ≡ take (input_limit + 1) all → IsRefused P bytes line code → IsRefused P all line code
-  refused_of_front all bytes line code e (too_long long) =
-      elim (front_cases all bytes e) [ inl same ↦ too_long (subst (λ b. input_limit < length b) same long) | inr both ↦ too_long both.1 ]
-  refused_of_front all bytes line code e (not_built none) =
-      elim (front_cases all bytes e) [ inl same ↦ not_built (subst (SpellsNone P) same none) | inr both ↦ absurd (omega (arith, none.short)) ]
-
-  -- bytes that are refused spell no case, and their refusal is one
-  refusals_are_one : (bytes : List ℕ) (line code l k : ℕ) → IsRefused P bytes line code → IsRefused P bytes l k → (line ≡ l) × (code ≡ k)
-  refusals_are_one bytes line code l k (too_long long) (too_long other) = (refl, refl)
-  refusals_are_one bytes line code l k (too_long long) (not_built none) = absurd (omega (arith, none.short))
-  refusals_are_one bytes line code l k (not_built none) (too_long long) = absurd (omega (arith, none.short))
-  refusals_are_one bytes line code l k (not_built none) (not_built other) = (refl, refl)
-
-  refused_spells_none : (bytes : List ℕ) (line code : ℕ) (c : Case) → IsRefused P bytes line code → Spells P bytes c → ⊥
-  refused_spells_none bytes line code c (too_long long) spells = absurd (omega (arith, spells.short))
-  refused_spells_none bytes line code c (not_built none) spells = none.none c spells.served spells.text
+front_alike : (command : Command) (all bytes : List ℕ) → bytes ≡ take (input_limit + 1) all → input_for command all ≡ input_for command bytes
+front_alike command all bytes e = ap (input_of command) (sym (front_reads_alike all bytes e))
 
 prints_of_front : (command : Command) (all bytes text : List ℕ) → bytes ≡ take (input_limit + 1) all → PrintsModel command text bytes → PrintsModel command text all
-prints_of_front command all bytes text e prints =
-    subst (PrintsModel command text) (spells_of_front (Serves command) all bytes prints.0.0 e prints.0.1) prints
+prints_of_front command all bytes text e prints = (prints.0, front_alike command all bytes e ∙ prints.1, prints.2)
 
--- whatever a command is served, is served
-pub served_by : (command : Command) (c : Case) → Serves command c → IsServed c
-served_by commands.One c served = served
-served_by commands.Drive c served = served.served
-
--- the bytes spell one case, so one text is printed
-pub prints_model : (command : Command) (bytes : List ℕ) (c : Case) (text : List ℕ) → Spells (Serves command) bytes c → text ≡ model_text c → PrintsModel command text bytes
-prints_model command bytes c text spells is = (
-  (c, spells),
-  λ d other. is ∙ ap model_text
-      (same_served c d (served_by command c spells.served) (served_by command d other.served) (sym spells.text ∙ other.text)),
-)
-
--- what is answered to a case is answered to its text
-pub answer_to_text : (command : Command) (bytes : List ℕ) (c : Case) (a : Answer) → Spells (Serves command) bytes c → IsAnswerFor command c a → IsAnswerTo command bytes a
-answer_to_text command bytes c (answers.Map map page) spells is = (is.0, prints_model command bytes c (map_text map.leaves) spells is.1, is.2)
-answer_to_text command bytes c (answers.World world page) spells is =
-    (is.0, is.1, subst (λ d. Spells IsServedByRanks bytes d) (sym is.2) (subst (λ k. Spells (Serves k) bytes c) is.0 spells), is.3)
-answer_to_text command bytes c (answers.Line s) spells is = absurd is
+-- what is answered to a case is answered to its bytes
+pub answer_to_bytes : (command : Command) (bytes : List ℕ) (c : Case) (a : Answer) → Accepts command bytes c → IsValid c → IsAnswerFor command c a → IsAnswerTo command bytes a
+answer_to_bytes command bytes c (answers.Map map) accepted valid is = (is.0, (c, accepted, is.1), (c, valid, is.1))
+answer_to_bytes command bytes c (answers.World world) accepted valid is =
+    (is.0, is.1, subst (λ d. Accepts commands.Drive bytes d) (sym is.2) (subst (λ k. Accepts k bytes c) is.0 accepted))
+answer_to_bytes command bytes c (answers.Line s) accepted valid is = absurd is
 
 world_of_front : (left : Option (List ℕ)) (bytes : List ℕ) (w : ForestWorld) → IfSome left (λ all. bytes ≡ take (input_limit + 1) all)
-    → HasRun w → Spells IsServedByRanks bytes (case_of w.setup) → IsWorldOf left w
-world_of_front None bytes w e run spells = record { run = run; its = tt }
-world_of_front (Some all) bytes w e run spells =
-    record { run = run; its = subst (λ b. Spells IsServedByRanks b (case_of w.setup)) (spells_of_front IsServedByRanks all bytes (case_of w.setup) e spells) spells }
+    → HasRun w → Accepts commands.Drive bytes (case_of w.setup) → IsWorldOf left w
+world_of_front None bytes w e run accepted = record { run = run; its = tt }
+world_of_front (Some all) bytes w e run accepted = record { run = run; its = front_alike commands.Drive all bytes e ∙ accepted }
 
 -- what is answered to the front of an input is answered to all of it
 pub answer_of_front : (command : Command) (left : Option (List ℕ)) (bytes : List ℕ) (before after : ℕ) (a : Answer)
     → IfSome left (λ all. bytes ≡ take (input_limit + 1) all) → after ≡ before → IsAnswerTo command bytes a → IsSourceAnswer command left before after a
-answer_of_front command None bytes before after (answers.Map map page) e same cause = (cause.0, tt, cause.2, same)
-answer_of_front command (Some all) bytes before after (answers.Map map page) e same cause =
-    (cause.0, prints_of_front command all bytes (map_text map.leaves) e cause.1, cause.2, same)
-answer_of_front command left bytes before after (answers.World world page) e same cause =
-    (cause.0, world_of_front left bytes world e cause.1 cause.2, cause.3, same)
+answer_of_front command None bytes before after (answers.Map map) e same cause = (cause.0, tt, same, cause.2)
+answer_of_front command (Some all) bytes before after (answers.Map map) e same cause =
+    (cause.0, prints_of_front command all bytes (map_text map.leaves) e cause.1, same, cause.2)
+answer_of_front command left bytes before after (answers.World world) e same cause =
+    (cause.0, world_of_front left bytes world e cause.1 cause.2, same)
 answer_of_front command None bytes before after (answers.Line (status.Refused line code)) e same cause = (tt, same)
 answer_of_front command (Some all) bytes before after (answers.Line (status.Refused line code)) e same cause =
-    (refused_of_front (Serves command) all bytes line code e cause, same)
+    (front_alike command all bytes e ∙ cause, same)
 answer_of_front command left bytes before after (answers.Line status.Ok) e same cause = absurd cause
 answer_of_front command left bytes before after (answers.Line status.Usage) e same cause = absurd cause
 answer_of_front command left bytes before after (answers.Line status.Memory) e same cause = absurd cause
@@ -103,12 +115,6 @@ answer_of_front command left bytes before after (answers.Line status.WriteFault)
 
 -- ---- what is meant
 
--- an answer with its cause can be told
-pub tellable_of : (command : Command) (left : Option (List ℕ)) (before after : ℕ) (a : Answer) → IsSourceAnswer command left before after a → IsTellable a
-tellable_of command left before after (answers.Map map page) cause = cause.2
-tellable_of command left before after (answers.World world page) cause = cause.2
-tellable_of command left before after (answers.Line s) cause = tt
-
 -- the status and the text of an answer, with others that equal them
 told_as : (words : List (List ℕ)) (left : Option (List ℕ)) (before after : ℕ) (world : Option ForestWorld) (meant other : Status) (text same : List ℕ)
     → meant ≡ other → text ≡ same → IsAnswer words left before after world other same → IsAnswer words left before after world meant text
@@ -116,19 +122,19 @@ told_as words left before after world meant other text same e f is =
     subst (λ s. IsAnswer words left before after world s text) (sym e) (subst (λ t. IsAnswer words left before after world other t) (sym f) is)
 
 one_prints : (left : Option (List ℕ)) (before after : ℕ) (text : List ℕ) (command : Command) → command ≡ commands.One
-    → IfSome left (PrintsModel command text) → after ≡ before → IsAnswerOf command left before after None status.Ok text
-one_prints left before after text command e prints same =
-    subst (λ k. IsAnswerOf k left before after None status.Ok text) (sym e) (subst (λ k. IfSome left (PrintsModel k text)) e prints, same, refl, tt)
+    → IfSome left (PrintsModel command text) → after ≡ before → IsModelText text → IsAnswerOf command left before after None status.Ok text
+one_prints left before after text command e prints same modelled =
+    subst (λ k. IsAnswerOf k left before after None status.Ok text) (sym e) (subst (λ k. IfSome left (PrintsModel k text)) e prints, same, refl, modelled)
 
 drive_prints : (left : Option (List ℕ)) (w : ForestWorld) (text : List ℕ) → IsWorldOf left w → text ≡ model_text (case_of w.setup) → IfSome left (PrintsModel commands.Drive text)
 drive_prints None w text its is = tt
-drive_prints (Some bytes) w text its is = prints_model commands.Drive bytes (case_of w.setup) text its.its is
+drive_prints (Some bytes) w text its is = (case_of w.setup, its.its, is)
 
 drive_answers : (left : Option (List ℕ)) (before after : ℕ) (w : ForestWorld) (meant : Status) (text : List ℕ) (command : Command) → command ≡ commands.Drive
     → IsWorldOf left w → after ≡ before → IsMeantBy w meant text → IsAnswerOf command left before after (Some w) meant text
 drive_answers left before after w meant text command e its same (inl (ok, finished, is)) =
     subst (λ k. IsAnswerOf k left before after (Some w) meant text) (sym e)
-    (subst (λ s. IsAnswerOf commands.Drive left before after (Some w) s text) (sym ok) (drive_prints left w text its is, same, its, (w, refl, finished)))
+    (subst (λ s. IsAnswerOf commands.Drive left before after (Some w) s text) (sym ok) (drive_prints left w text its is, same, its, (w, refl, finished, is)))
 drive_answers left before after w meant text command e its same (inr (memory, is)) =
     subst (λ k. IsAnswerOf k left before after (Some w) meant text) (sym e)
     (subst (λ s. IsAnswerOf commands.Drive left before after (Some w) s text) (sym memory) (is, same, its))
@@ -143,11 +149,11 @@ pub means : (words : List (List ℕ)) (left : Option (List ℕ)) (before after :
     → IsCaused words left before after a → IsMeant a meant text → IsAnswer words left before after (world_in a) meant text
 means words left before after a meant text (usage none same) is =
     told_as words left before after None meant status.Usage text (status_line status.Usage) is.0 is.1 (no_command none same refl)
-means words left before after (answers.Map map page) meant text (by_command command its cause) is =
+means words left before after (answers.Map map) meant text (by_command command its cause) is =
     told_as words left before after None meant status.Ok text (map_text map.leaves) is.0 is.1
-    (of_command command its (one_prints left before after (map_text map.leaves) command cause.0 cause.1 cause.3))
-means words left before after (answers.World world page) meant text (by_command command its cause) is =
-    of_command command its (drive_answers left before after world meant text command cause.0 cause.1 cause.3 is)
+    (of_command command its (one_prints left before after (map_text map.leaves) command cause.0 cause.1 cause.2 cause.3))
+means words left before after (answers.World world) meant text (by_command command its cause) is =
+    of_command command its (drive_answers left before after world meant text command cause.0 cause.1 cause.2 is)
 means words left before after (answers.Line (status.Refused line code)) meant text (by_command command its cause) is =
     told_as words left before after None meant (status.Refused line code) text (status_line (status.Refused line code)) is.0 is.1
     (of_command command its (cause.0, refl, cause.1, refl))
@@ -168,8 +174,8 @@ means_with words left before after a meant text world cause is same =
 
 -- what is meant is read where the answer is
 pub read_where_meant : (a : Answer) (meant : Status) (text : List ℕ) → IsMeant a meant text → WasRead meant → WasRead (meant_by a)
-read_where_meant (answers.Map map page) meant text is read = tt
-read_where_meant (answers.World world page) meant text is read = tt
+read_where_meant (answers.Map map) meant text is read = tt
+read_where_meant (answers.World world) meant text is read = tt
 read_where_meant (answers.Line s) meant text is read = subst WasRead is.0 read
 
 -- ---- what a call tells
@@ -228,14 +234,14 @@ line_where words left old new p q f g world meant s text cause (inr front) line 
 -- ---- the map
 
 ok_of : (words : List (List ℕ)) (left : Option (List ℕ)) (p q : ℕ) (world : Option ForestWorld) (text : List ℕ) → IsAnswer words left p q world status.Ok text
-    → (command : Command) × (IsCommand words command × (IfSome left (PrintsModel command text) × HasFinished command world))
+    → (command : Command) × (IsCommand words command × (IfSome left (PrintsModel command text) × HasFinished command world text))
 ok_of words left p q world text (of_command command its cause) = (command, (its, (cause.0, cause.3)))
 
 wrote_model : (command : Command) (left old new : Option (List ℕ)) (text : List ℕ) → IfSome left (PrintsModel command text) → new ≡ appended old text
     → IfSome left (WroteModel command old new)
 wrote_model command None old new text prints is = tt
 wrote_model command (Some bytes) old new text prints is =
-    let spelled = prints.0 in (spelled.0, spelled.1, is ∙ ap (appended old) (prints.1 spelled.0 spelled.1))
+    (prints.0, prints.1, is ∙ ap (appended old) prints.2)
 
 pub done_where : (words : List (List ℕ)) (left old new : Option (List ℕ)) (p q f g : ℕ) (world : Option ForestWorld) (meant s : Status) (text : List ℕ)
     → IsAnswer words left p q world meant text → Tells meant text s old new f g → s ≡ status.Ok
@@ -247,23 +253,23 @@ done_where words left old new p q f g world meant s text cause (inr front) is = 
 
 pub finished_where : (words : List (List ℕ)) (left old new : Option (List ℕ)) (p q f g : ℕ) (world : Option ForestWorld) (meant s : Status) (text : List ℕ)
     → IsAnswer words left p q world meant text → Tells meant text s old new f g → s ≡ status.Ok → IsCommand words commands.Drive
-    → (w : ForestWorld) × ((world ≡ Some w) × (outcome_of w ≡ Some Finished))
+    → (w : ForestWorld) × ((world ≡ Some w) × (outcome_of w ≡ Some Finished) × (new ≡ appended old (model_text (case_of w.setup))))
 finished_where words left old new p q f g world meant s text cause (inl whole) is drives =
     let ok = ok_of words left p q world text (subst (λ m. IsAnswer words left p q world m text) (sym whole.0 ∙ is) cause) in
-    let its = subst (λ k. HasFinished k world) (one_command words ok.0 commands.Drive ok.1.0 drives) ok.1.1.1 in
-    (its.0, (its.1, its.2))
+    let its = subst (λ k. HasFinished k world text) (one_command words ok.0 commands.Drive ok.1.0 drives) ok.1.1.1 in
+    (its.0, (its.1, its.2, whole.1 ∙ ap (appended old) its.3))
 finished_where words left old new p q f g world meant s text cause (inr front) is drives = absurd (let e : status.WriteFault ≡ status.Ok = sym front.0 ∙ is in cc)
 
 -- ---- refusals
 
 refusal_of : (words : List (List ℕ)) (left : Option (List ℕ)) (p q : ℕ) (world : Option ForestWorld) (line code : ℕ) (text : List ℕ)
     → IsAnswer words left p q world (status.Refused line code) text
-    → (command : Command) × (IsCommand words command × IfSome left (λ bytes. IsRefused (Serves command) bytes line code))
+    → (command : Command) × (IsCommand words command × IfSome left (λ bytes. Refuses command bytes line code))
 refusal_of words left p q world line code text (of_command command its cause) = (command, (its, cause.0))
 
 pub refused_where : (words : List (List ℕ)) (left old new : Option (List ℕ)) (p q f g : ℕ) (world : Option ForestWorld) (meant s : Status) (text : List ℕ)
     → IsAnswer words left p q world meant text → Tells meant text s old new f g
-    → OnRefused s (λ line code. (command : Command) × (IsCommand words command × IfSome left (λ bytes. IsRefused (Serves command) bytes line code)))
+    → OnRefused s (λ line code. (command : Command) × (IsCommand words command × IfSome left (λ bytes. Refuses command bytes line code)))
 refused_where words left old new p q f g world meant (status.Refused line code) text cause (inl whole) =
     refusal_of words left p q world line code text (subst (λ m. IsAnswer words left p q world m text) (sym whole.0) cause)
 refused_where words left old new p q f g world meant (status.Refused line code) text cause (inr front) =
@@ -282,23 +288,21 @@ meant_where words left p q world meant text command its (of_command other is cau
     subst (λ k. IsAnswerOf k left p q world meant text) (one_command words other command is its) cause
 
 refused_of : (command : Command) (bytes : List ℕ) (old new : Option (List ℕ)) (p q f g : ℕ) (world : Option ForestWorld) (meant s : Status) (text : List ℕ) (line code : ℕ)
-    → IsAnswerOf command (Some bytes) p q world meant text → Tells meant text s old new f g → IsRefused (Serves command) bytes line code
+    → IsAnswerOf command (Some bytes) p q world meant text → Tells meant text s old new f g → Refuses command bytes line code
     → IsAmong (status.Refused line code ∷ status.Memory ∷ status.ReadFault ∷ status.WriteFault ∷ []) s
 refused_of command bytes old new p q f g world meant s text line code cause (inr front) refused = (3, lit< tt, sym front.0)
 refused_of command bytes old new p q f g world status.Ok s text line code cause (inl whole) refused =
-    absurd (refused_spells_none (Serves command) bytes line code cause.0.0.0 refused cause.0.0.1)
+    absurd (refused_runs_none command bytes line code cause.0.0 refused cause.0.1)
 refused_of command bytes old new p q f g world status.Usage s text line code cause (inl whole) refused = absurd cause
 refused_of command bytes old new p q f g world (status.Refused l k) s text line code cause (inl whole) refused =
-    let same = refusals_are_one (Serves command) bytes line code l k refused cause.0 in
-    let e : status.Refused line code ≡ status.Refused l k = cc in
-    (0, lit< tt, e ∙ sym whole.0)
+    (0, lit< tt, refused_alike command bytes line code l k refused cause.0 ∙ sym whole.0)
 refused_of command bytes old new p q f g world status.Memory s text line code cause (inl whole) refused = (1, lit< tt, sym whole.0)
 refused_of command bytes old new p q f g world status.ReadFault s text line code cause (inl whole) refused = (2, lit< tt, sym whole.0)
 refused_of command bytes old new p q f g world status.WriteFault s text line code cause (inl whole) refused = absurd cause
 
 pub refused_when : (words : List (List ℕ)) (left old new : Option (List ℕ)) (p q f g : ℕ) (world : Option ForestWorld) (meant s : Status) (text : List ℕ)
     → IsAnswer words left p q world meant text → Tells meant text s old new f g
-    → (command : Command) (bytes : List ℕ) (line code : ℕ) → IsCommand words command → left ≡ Some bytes → IsRefused (Serves command) bytes line code
+    → (command : Command) (bytes : List ℕ) (line code : ℕ) → IsCommand words command → left ≡ Some bytes → Refuses command bytes line code
     → IsAmong (status.Refused line code ∷ status.Memory ∷ status.ReadFault ∷ status.WriteFault ∷ []) s
 refused_when words left old new p q f g world meant s text cause told command bytes line code its is refused =
     refused_of command bytes old new p q f g world meant s text line code
@@ -350,26 +354,27 @@ whole_where left then old new f g meant s text (inr front) whole read = absurd (
 -- ---- what is complete, and the world
 
 complete_of : (command : Command) (bytes : List ℕ) (old new : Option (List ℕ)) (p q f g : ℕ) (world : Option ForestWorld) (meant s : Status) (text : List ℕ) (c : Case)
-    → IsAnswerOf command (Some bytes) p q world meant text → Tells meant text s old new f g → Spells (Serves command) bytes c
+    → IsAnswerOf command (Some bytes) p q world meant text → Tells meant text s old new f g → Accepts command bytes c
     → (Rose p q → ⊥) → (Rose f g → ⊥) → IsDone c s old new
-complete_of command bytes old new p q f g world meant s text c cause (inr front) spells read steady = absurd (steady front.2)
-complete_of command bytes old new p q f g world status.Ok s text c cause (inl whole) spells read steady =
-    inl (whole.0, whole.1 ∙ ap (appended old) (cause.0.1 c spells))
-complete_of command bytes old new p q f g world status.Usage s text c cause (inl whole) spells read steady = absurd cause
-complete_of command bytes old new p q f g world (status.Refused l k) s text c cause (inl whole) spells read steady =
-    absurd (refused_spells_none (Serves command) bytes l k c cause.0 spells)
-complete_of command bytes old new p q f g world status.Memory s text c cause (inl whole) spells read steady =
+complete_of command bytes old new p q f g world meant s text c cause (inr front) accepted read steady = absurd (steady front.2)
+complete_of command bytes old new p q f g world status.Ok s text c cause (inl whole) accepted read steady =
+    let its = cause.0 in
+    inl (whole.0, whole.1 ∙ ap (appended old) (its.2 ∙ ap model_text (accepted_alike command bytes its.0 c its.1 accepted)))
+complete_of command bytes old new p q f g world status.Usage s text c cause (inl whole) accepted read steady = absurd cause
+complete_of command bytes old new p q f g world (status.Refused l k) s text c cause (inl whole) accepted read steady =
+    absurd (refused_runs_none command bytes l k c cause.0 accepted)
+complete_of command bytes old new p q f g world status.Memory s text c cause (inl whole) accepted read steady =
     inr (whole.0, whole.1 ∙ ap (appended old) cause.0)
-complete_of command bytes old new p q f g world status.ReadFault s text c cause (inl whole) spells read steady = absurd (read cause.1)
-complete_of command bytes old new p q f g world status.WriteFault s text c cause (inl whole) spells read steady = absurd cause
+complete_of command bytes old new p q f g world status.ReadFault s text c cause (inl whole) accepted read steady = absurd (read cause.1)
+complete_of command bytes old new p q f g world status.WriteFault s text c cause (inl whole) accepted read steady = absurd cause
 
 pub complete_when : (words : List (List ℕ)) (left old new : Option (List ℕ)) (p q f g : ℕ) (world : Option ForestWorld) (meant s : Status) (text : List ℕ)
     → IsAnswer words left p q world meant text → Tells meant text s old new f g
-    → (command : Command) (bytes : List ℕ) (c : Case) → IsCommand words command → left ≡ Some bytes → Spells (Serves command) bytes c
+    → (command : Command) (bytes : List ℕ) (c : Case) → IsCommand words command → left ≡ Some bytes → Accepts command bytes c
     → (Rose p q → ⊥) → (Rose f g → ⊥) → IsDone c s old new
-complete_when words left old new p q f g world meant s text cause told command bytes c its is spells read steady =
+complete_when words left old new p q f g world meant s text cause told command bytes c its is accepted read steady =
     complete_of command bytes old new p q f g world meant s text c
-    (meant_where words (Some bytes) p q world meant text command its (subst (λ l. IsAnswer words l p q world meant text) is cause)) told spells read steady
+    (meant_where words (Some bytes) p q world meant text command its (subst (λ l. IsAnswer words l p q world meant text) is cause)) told accepted read steady
 
 handed : (words : List (List ℕ)) (left : Option (List ℕ)) (world : Option ForestWorld) (command : Command) → IsCommand words command → HandsOut command left world
     → IfSome world (λ w. IsCommand words commands.Drive × IsWorldOf left w)

@@ -1,7 +1,6 @@
 -- The text of a finished world.
 use Rattle.std.proofs.Common.{◌≡◌, ℕ, List, map, ap, sym, subst, ◌∙◌}
 use Rattle.std.specs.Prelude.{IsPermutation, IsTrue, Some}
-use Rattle.std.specs.Borrow.{Bor}
 use Rattle.std.specs.List.Sorted.{IsNonDecreasingBy}
 use Rattle.std.proofs.lemmas.Simd.{map-map}
 use Rattle.bf_case.specs.MapText.{map_text}
@@ -33,13 +32,13 @@ AreInOrder = (c : Case) (time : ℕ) (blocks sorted : List BlockValue) → CanRu
     → IsPermutation blocks sorted → IsNonDecreasingBy (λ (block : BlockValue). block.id.root) sorted
     → map leaf_of sorted ≡ model c time
 
-pub finished_text : (world : ForestWorld) (blocks : List (Bor BlockValue)) → HasLeaves → AreInOrder → IsView forest world → outcome_of world ≡ Some Finished
-    → IsPermutation (blocks_of world.parcels) (map (λ block. block.now) blocks)
-    → IsNonDecreasingBy (λ (block : BlockValue). block.id.root) (map (λ block. block.now) blocks)
-    → map_text (map (λ block. leaf_of block.now) blocks) ≡ model_text (case_of world.setup)
-finished_text world blocks has order is finished same rising =
+pub finished_text : {X : Type 0} (block_of : X → BlockValue) (world : ForestWorld) (leaves : List X) → HasLeaves → AreInOrder → IsView forest world → outcome_of world ≡ Some Finished
+    → IsPermutation (blocks_of world.parcels) (map block_of leaves)
+    → IsNonDecreasingBy (λ (block : BlockValue). block.id.root) (map block_of leaves)
+    → map_text (map (λ x. leaf_of (block_of x)) leaves) ≡ model_text (case_of world.setup)
+finished_text block_of world leaves has order is finished same rising =
     let c = case_of world.setup in
-    let leaves : AreLeaves (model c c.steps) (blocks_of world.parcels) =
+    let its : AreLeaves (model c c.steps) (blocks_of world.parcels) =
     subst (λ l. AreLeaves (model c c.steps) (blocks_of l)) (sym is.parcels) (has world.setup world.journal is.legal finished) in
-    ap map_text (sym (map-map leaf_of (λ (block : Bor BlockValue). block.now) blocks)
-    ∙ order c c.steps (blocks_of world.parcels) (map (λ block. block.now) blocks) (every_setup_runs world.setup) leaves same rising)
+    ap map_text (sym (map-map leaf_of block_of leaves)
+    ∙ order c c.steps (blocks_of world.parcels) (map block_of leaves) (every_setup_runs world.setup) its same rising)

@@ -1,16 +1,3 @@
-pub mod RootSteps
-pub mod StepLoop
-pub mod Front
-pub mod Lines
-pub mod Heads
-pub mod FillLines
-pub mod OrderLines
-pub mod Texts
-pub mod RankLemmas
-pub mod PageLemmas
-pub mod RunLoop
-pub mod RootLists
 pub mod WordLemmas
-pub mod LeafTexts
 pub mod DrivenLemmas
 pub mod AnswerLemmas

@@ -4,7 +4,8 @@ use Rattle.bf_edge.specs.Faults.{Rose}
 use Rattle.bf_edge.specs.Sink.{appended, AppendsPrefix}
 use Rattle.bf_edge.specs.Source.{left_after}
 use Rattle.bf_case.specs.declared.case.Case.{Case}
-use Rattle.bf_case.specs.Reading.{input_limit, Spells, IsRefused, IsServedByRanks}
+use Rattle.bf_case.specs.Case.{IsValid}
+use Rattle.bf_text.specs.Reading.{input_limit}
 use Rattle.bf_case.specs.Model.{model}
 use Rattle.bf_case.specs.MapText.{map_text}
 use Rattle.bf_block.specs.Setup.{case_of}
@@ -13,7 +14,8 @@ use Rattle.bf_cli.specs.declared.command.Command.{Command}
 use Rattle.bf_cli.specs.declared.command.Command.TheVariants as commands
 use Rattle.bf_cli.specs.declared.status.Status.{Status}
 use Rattle.bf_cli.specs.declared.status.Status.TheVariants as status
-use Rattle.bf_cli.specs.Commands.{IsCommand, IsUsage, Serves}
+use Rattle.bf_cli.specs.Commands.{IsCommand, IsUsage}
+use Rattle.bf_cli.specs.Inputs.{Accepts, Refuses}
 use Rattle.bf_cli.specs.Driven.{ForestWorld, HasRun, outcome_of}
 
 -- the answer is one of these
@@ -33,7 +35,7 @@ number_of status.WriteFault = 7
 abbrev pub status_line : Status → List ℕ
 status_line status.Ok = []
 status_line status.Usage = codes "usage\n"
-status_line (status.Refused line code) = (codes "refused line " ++ decimal line) ++ (codes " code " ++ decimal code) ++ codes "\n"
+status_line (status.Refused line code) = (codes "refused line " ++ decimal line) ++ ((codes " code " ++ decimal code) ++ codes "\n")
 status_line status.Memory = codes "memory\n"
 status_line status.ReadFault = codes "read fault\n"
 status_line status.WriteFault = []
@@ -42,10 +44,13 @@ status_line status.WriteFault = []
 abbrev pub model_text : Case → List ℕ
 model_text c = map_text (model c c.steps)
 
--- the bytes spell a case that the command is served, and the text is that of its map after all steps
+-- the text is that of the map of some case
+abbrev pub IsModelText : List ℕ → Type 0
+IsModelText text = (c : Case) × IsValid c × (text ≡ model_text c)
+
+-- the command runs a case of the bytes, and the text is that of its map after all steps
 abbrev pub PrintsModel : Command → List ℕ → List ℕ → Type 0
-PrintsModel command text bytes =
-    ((c : Case) × Spells (Serves command) bytes c) × ((c : Case) → Spells (Serves command) bytes c → text ≡ model_text c)
+PrintsModel command text bytes = (c : Case) × Accepts command bytes c × (text ≡ model_text c)
 
 -- the whole input was read
 abbrev pub WasRead : Status → Type 0
@@ -53,28 +58,29 @@ WasRead status.Ok = Unit {0}
 WasRead (status.Refused line code) = Unit {0}
 WasRead s = ⊥
 
--- the world is that of the case that the bytes spell, where they are told, which the ranks have run
+-- the world is that of the case of the bytes, where they are told, which the ranks have run
 pub record IsWorldOf (left : Option (List ℕ)) (world : ForestWorld) : Type 0 where
   pub run : HasRun world
-  pub its : IfSome left (λ bytes. Spells IsServedByRanks bytes (case_of world.setup))
+  pub its : IfSome left (λ bytes. Accepts commands.Drive bytes (case_of world.setup))
 
 -- what a command hands out: only the ranks' run has a world
 abbrev pub HandsOut : Command → Option (List ℕ) → Option ForestWorld → Type 0
 HandsOut commands.One left world = world ≡ None
 HandsOut commands.Drive left world = IfSome world (IsWorldOf left)
 
--- where a map is printed that ranks have made, their world is there and has finished
-abbrev pub HasFinished : Command → Option ForestWorld → Type 0
-HasFinished commands.One world = Unit {0}
-HasFinished commands.Drive world = (w : ForestWorld) × (world ≡ Some w) × (outcome_of w ≡ Some Finished)
+-- whose map is printed, whether the source tells its bytes or not: that of some case; or of the case whose world is handed out, which has finished
+abbrev pub HasFinished : Command → Option ForestWorld → List ℕ → Type 0
+HasFinished commands.One world text = IsModelText text
+HasFinished commands.Drive world text =
+    (w : ForestWorld) × (world ≡ Some w) × (outcome_of w ≡ Some Finished) × (text ≡ model_text (case_of w.setup))
 
 -- why this answer of a command may come, for the bytes of the source where they are told, for its count of faults before and after, and
 -- for the world that is handed out; and the text that goes with it
 abbrev pub IsAnswerOf : Command → Option (List ℕ) → ℕ → ℕ → Option ForestWorld → Status → List ℕ → Type 0
 IsAnswerOf command left before after world status.Ok text =
-    IfSome left (PrintsModel command text) × (after ≡ before) × HandsOut command left world × HasFinished command world
+    IfSome left (PrintsModel command text) × (after ≡ before) × HandsOut command left world × HasFinished command world text
 IsAnswerOf command left before after world (status.Refused line code) text =
-    IfSome left (λ bytes. IsRefused (Serves command) bytes line code) × (text ≡ status_line (status.Refused line code)) × (after ≡ before) × (world ≡ None)
+    IfSome left (λ bytes. Refuses command bytes line code) × (text ≡ status_line (status.Refused line code)) × (after ≡ before) × (world ≡ None)
 IsAnswerOf command left before after world status.Memory text = (text ≡ status_line status.Memory) × (after ≡ before) × HandsOut command left world
 IsAnswerOf command left before after world status.ReadFault text = (text ≡ status_line status.ReadFault) × Rose before after × (world ≡ None)
 IsAnswerOf command left before after world status.Usage text = ⊥
@@ -126,9 +132,9 @@ IsLine status.Ok = ⊥
 IsLine status.WriteFault = ⊥
 IsLine s = Unit {0}
 
--- the text of the map of a case that the bytes spell has been written, and nothing else
+-- the text of the map of the case that the command runs has been written, and nothing else
 abbrev pub WroteModel : Command → Option (List ℕ) → Option (List ℕ) → List ℕ → Type 0
-WroteModel command old new bytes = (c : Case) × Spells (Serves command) bytes c × (new ≡ appended old (model_text c))
+WroteModel command old new bytes = (c : Case) × Accepts command bytes c × (new ≡ appended old (model_text c))
 
 -- the text of this case's map has been written, or the line that tells want of memory
 abbrev pub IsDone : Case → Status → Option (List ℕ) → Option (List ℕ) → Type 0

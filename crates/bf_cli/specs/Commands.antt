@@ -1,7 +1,6 @@
--- The commands, their words, and the cases that each is served.
-use Rattle.std.specs.Prelude.{◌≡◌, ℕ, List, [], ◌∷◌, codes}
+-- The commands, their words, and the cases that each serves.
+use Rattle.std.specs.Prelude.{◌≡◌, ℕ, ◌==◌, nat_le, Bool, true, ◌&&◌, List, [], ◌∷◌, codes, length}
 use Rattle.bf_case.specs.declared.case.Case.{Case}
-use Rattle.bf_case.specs.Reading.{IsServed, IsServedByRanks}
 use Rattle.bf_cli.specs.declared.command.Command.{Command}
 use Rattle.bf_cli.specs.declared.command.Command.TheVariants as commands
 
@@ -17,7 +16,7 @@ IsCommand words command = words ≡ words_of command
 abbrev pub IsUsage : List (List ℕ) → Type 0
 IsUsage words = (command : Command) → IsCommand words command → ⊥
 
--- the cases for which a command is served
-abbrev pub Serves : Command → Case → Type 0
-Serves commands.One = IsServed
-Serves commands.Drive = IsServedByRanks
+-- whether a command serves a case yet: one process serves all; ranks those with no regrid, one snapshot, at the end, and no deaths
+abbrev pub serves : Command → Case → Bool
+serves commands.One c = true
+serves commands.Drive c = (c.regrid == 0) && (nat_le c.steps c.snapshot && (length c.dies == 0))

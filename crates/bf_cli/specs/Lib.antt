@@ -1,7 +1,5 @@
-pub mod Roots
-pub mod Reader
-pub mod Page
 pub mod Commands
+pub mod Inputs
 pub mod Driven
 pub mod Answers
 pub mod Told

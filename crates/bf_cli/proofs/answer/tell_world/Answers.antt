@@ -8,6 +8,7 @@ use Rattle.bf_core.specs.declared.outcome.Outcome.TheVariants.{Finished}
 use Rattle.bf_driven.specs.Parcels.{blocks_of}
 use Rattle.bf_forest.specs.Gathered.{leaf_of}
 use Rattle.bf_cli.specs.Driven.{outcome_of}
+use Rattle.bf_cli.specs.declared.leaves.BlockLeaf.{BlockLeaf}
 use Rattle.bf_cli.specs.declared.status.Status.TheVariants as status
 use Rattle.bf_cli.proofs.DrivenLemmas.{finished_text}
 use Rattle.bf_cli.proofs.answer.tell_world.Goals as goal
@@ -15,14 +16,15 @@ use Rattle.bf_cli.proofs.answer.tell_world.Goals as goal
 pub returns-in-Ok-clause-told : goal.returns-in-Ok-clause-told
 returns-in-Ok-clause-told g c =
     let world = c.args.world.now in
-    let blocks = c.as_slice.result.now in
-    let same = subst (λ l. IsPermutation (blocks_of world.parcels) (map (λ block. block.now) l)) (sym c.as_slice.ensures.value)
-    (subst (λ l. IsPermutation (blocks_of l) (map (λ block. block.now) c.in-Ok.found.items)) c.parcels.ensures c.in-Ok.ensures.same) in
-    let rising = subst (λ l. IsNonDecreasingBy (λ (block : BlockValue). block.id.root) (map (λ block. block.now) l)) (sym c.as_slice.ensures.value) c.in-Ok.ensures.rising in
+    let leaves = c.as_slice.result.now in
+    let block_of : BlockLeaf → BlockValue = λ leaf. leaf.block.now in
+    let same = subst (λ l. IsPermutation (blocks_of world.parcels) (map block_of l)) (sym c.as_slice.ensures.value)
+    (subst (λ l. IsPermutation (blocks_of l) (map block_of c.in-Ok.found.items)) c.parcels.ensures c.in-Ok.ensures.same) in
+    let rising = subst (λ l. IsNonDecreasingBy (λ (block : BlockValue). block.id.root) (map block_of l)) (sym c.as_slice.ensures.value) c.in-Ok.ensures.rising in
     let finished : outcome_of world ≡ Some Finished = sym c.outcome.ensures ∙ c.in-Some-Finished.is ∙ ap (λ (o : Outcome). Some o) c.in-Some-Finished.field-0-is in (
       status.Ok,
       (
-        map_text (map (λ block. leaf_of block.now) blocks),
-        (inl (refl, finished, finished_text world blocks c.a_finished_run_has_the_leaves.ensures c.leaves_in_order_are_the_map.ensures c.known.ensures finished same rising), c.tell_map.ensures.told),
+        map_text (map (λ (leaf : BlockLeaf). leaf_of leaf.block.now) leaves),
+        (inl (refl, finished, finished_text block_of world leaves c.a_finished_run_has_the_leaves.ensures c.leaves_in_order_are_the_map.ensures c.known.ensures finished same rising), c.tell_map.ensures.told),
       ),
     )
