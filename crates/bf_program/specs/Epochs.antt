@@ -1,5 +1,5 @@
 -- How one epoch follows another.
-use Rattle.std.specs.Prelude.{ℕ, ◌+◌, false, true, List, min}
+use Rattle.std.specs.Prelude.{ℕ, ◌+◌, false, true, List, min, if◌then◌else◌}
 use Rattle.std.specs.List.{range_with_len}
 use Rattle.bf_program.specs.declared.epoch.Epoch.{Epoch}
 
@@ -33,12 +33,16 @@ epoch_after_commit steps interval epoch = record {
   restored = false;
 }
 
--- the epoch after a restore: the live go on from the snapshot that was agreed before
+-- the time to which an epoch runs: one that a restore began only makes the copies again
+abbrev pub target_in : (steps interval : ℕ) → Epoch → ℕ
+target_in steps interval epoch = if epoch.restored then epoch.time else target_of steps interval epoch.time
+
+-- the epoch after a restore: the live lay the snapshot that was agreed before once more
 abbrev pub epoch_after_restore : (live : List ℕ) → Epoch → Epoch
 epoch_after_restore live epoch = record {
   number = next_number epoch.number;
   time = epoch.time;
-  target = epoch.target;
+  target = epoch.time;
   members = live;
   homes = epoch.homes;
   restored = true;

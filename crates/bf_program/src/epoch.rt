@@ -63,6 +63,7 @@ impl Epoch {
     {
         Epoch {
             number: self.number.saturating_add(1),
+            target: self.time,
             members: live,
             restored: true,
             ..self

@@ -12,7 +12,7 @@ use Rattle.std.proofs.lemmas.Option.{slice_get_within}
 use Rattle.bf_buddy.specs.Members.{is_member}
 use Rattle.bf_buddy.specs.Losses.{first_lost_of}
 use Rattle.bf_program.specs.declared.epoch.Epoch.{Epoch}
-use Rattle.bf_program.specs.Epochs.{target_of}
+use Rattle.bf_program.specs.Epochs.{target_of, target_in}
 use Rattle.bf_program.specs.Meanings.{Meanings}
 use Rattle.bf_program.specs.Laws.{KeepsLimits, KeepsGood, KeepsStored, KeepsPeers}
 use Rattle.bf_program.specs.Restores.{restored_locals}
@@ -54,7 +54,7 @@ use Rattle.bf_world.proofs.WaitingLemmas.{below_end}
 -- the target of every epoch is the one of its time
 
 pub record IsTimed (state : State) : Type 0 where
-  pub target : state.epoch.target ≡ target_of state.steps state.interval state.epoch.time
+  pub target : state.epoch.target ≡ target_in state.steps state.interval state.epoch
 
 happened_timed : (state : State) (event : Event) (filled : Bool) → IsTimed state → IsTimed (happened state event filled)
 happened_timed state (Send rank to blocks sum) filled timed = record { target = timed.target }
@@ -72,7 +72,7 @@ decided_timed state Commit timed = at_end (state.epoch.target == state.steps)
     at_end : (b : Bool) → IsTimed (if b then ended state outcomes.Finished else committed state)
     at_end true = record { target = timed.target }
     at_end false = record { target = refl }
-decided_timed state Restore timed = record { target = timed.target }
+decided_timed state Restore timed = record { target = refl }
 
 settled_timed : (state : State) → IsTimed state → IsTimed (settled state)
 unfolding settled
@@ -445,9 +445,10 @@ one_more_interval time interval some =
     one_row a w = omega arith
 
 -- a commit that goes on moves the time
-commit_epochs : (steps time target interval members : ℕ) → target ≡ target_of steps interval time → 1 ≤ interval → (target == steps) ≡ false
-    → intervals_in (steps - target) interval + members + 1 ≤ intervals_in (steps - time) interval + members
-commit_epochs steps time target interval members timed some unended = elim (cases_eq target steps) [
+commit_epochs : (steps time target interval members : ℕ) (is_restored : Bool) → target ≡ (if is_restored then time else target_of steps interval time) → 1 ≤ interval → (target == steps) ≡ false
+    → intervals_in (steps - target) interval + 2 * members + 0 + 1 ≤ intervals_in (steps - time) interval + 2 * members + (if is_restored then 1 else 0)
+commit_epochs steps time target interval members true timed some unended = omega (arith, ap (λ t. intervals_in (steps - t) interval) timed)
+commit_epochs steps time target interval members false timed some unended = elim (cases_eq target steps) [
   | inl same ↦ absurd (let e : true ≡ false = sym (eq-eqb target steps same) ∙ unended in cc)
   | inr other ↦
       let apart : steps - time ≡ (steps - target) + interval = omega (arith, timed, some, other) in
@@ -459,14 +460,18 @@ committed_epochs : (state : State) → state.outcome ≡ None → IsTimed state 
 unfolding epochs_left dissolved
 committed_epochs state none timed some unended =
     rw (ap (λ o. is_some o) none)
-    (commit_epochs state.steps state.epoch.time state.epoch.target state.interval (length state.epoch.members) timed.target some unended)
+    (commit_epochs state.steps state.epoch.time state.epoch.target state.interval (length state.epoch.members) state.epoch.restored timed.target some unended)
 
 restored_epochs : (state : State) → state.outcome ≡ None → Missing state → epochs_left (restored state) + 1 ≤ epochs_left state
 unfolding epochs_left dissolved live_members
 restored_epochs state none missing =
     let fewer : length (filter (λ rank. lives (stage state rank)) state.epoch.members) < length state.epoch.members =
     filter_fewer (λ rank. lives (stage state rank)) state.epoch.members missing.0 missing.1.0 missing.1.1 in
-    rw (ap (λ o. is_some o) none) (omega (arith, fewer))
+    rw (ap (λ o. is_some o) none) (one_less (length (filter (λ rank. lives (stage state rank)) state.epoch.members)) (length state.epoch.members) (intervals_in (state.steps - state.epoch.time) state.interval) state.epoch.restored fewer)
+  where
+    one_less : (few members intervals : ℕ) (b : Bool) → few < members → intervals + 2 * few + 1 + 1 ≤ intervals + 2 * members + (if b then 1 else 0)
+    one_less few members intervals true fewer = omega (arith, fewer)
+    one_less few members intervals false fewer = omega (arith, fewer)
 
 ended_epochs : (state : State) (outcome : Outcome) → epochs_left (ended state outcome) ≡ 0
 unfolding epochs_left dissolved
@@ -586,16 +591,16 @@ module _ {S L M T R : Type 0} (m : Meanings S L M T R) (setup : S) where
   unfolding opening_run opening
   opening_unended = refl
 
-  opening_epochs : epochs_left (opening_run {T = T} m setup).core ≡ intervals_in (m.steps setup) (m.interval setup) + m.ranks setup
+  opening_epochs : epochs_left (opening_run {T = T} m setup).core ≡ intervals_in (m.steps setup) (m.interval setup) + 2 * m.ranks setup + 0
   unfolding epochs_left opening_run opening
   opening_epochs =
       let all : m.steps setup - 0 ≡ m.steps setup = omega arith in
-      ap (λ n. intervals_in n (m.interval setup) + length (range_with_len 0 (m.ranks setup))) all
-      ∙ ap (λ n. intervals_in (m.steps setup) (m.interval setup) + n) (length-range_with_len 0 (m.ranks setup))
+      ap (λ n. intervals_in n (m.interval setup) + 2 * length (range_with_len 0 (m.ranks setup)) + 0) all
+      ∙ ap (λ n. intervals_in (m.steps setup) (m.interval setup) + 2 * n + 0) (length-range_with_len 0 (m.ranks setup))
 
 module _ {S L M T R : Type 0} (m : Meanings S L M T R) (good : S → Epoch → ℕ → List L → Type 0) (setup : S)
     (goods : KeepsGood m good setup) (stores : KeepsStored m good setup) (peers : KeepsPeers m good setup) (limits : KeepsLimits m setup)
-    (rounds : ℕ) (few_rounds : (epoch : Epoch) → epoch.target ≡ target_of (m.steps setup) (m.interval setup) epoch.time → m.rounds setup epoch ≤ rounds) where
+    (rounds : ℕ) (few_rounds : (epoch : Epoch) → epoch.target ≡ target_in (m.steps setup) (m.interval setup) epoch → m.rounds setup epoch ≤ rounds) where
   -- a rank has at most as many peers as there are other ranks
   few_peers : (run : Run L T) → IsLawful m good setup goods stores run → run.core.outcome ≡ None → (rank round : ℕ) → rank < m.ranks setup → round < m.rounds setup run.core.epoch
       → length (peers_at m setup run.core.epoch run.start rank round) ≤ m.ranks setup - 1
@@ -631,9 +636,9 @@ module _ {S L M T R : Type 0} (m : Meanings S L M T R) (good : S → Epoch → �
         more_rounds (m.rounds setup run.core.epoch) rounds (m.ranks setup - 1) (few_rounds run.core.epoch of_run),
       )
     where
-      of_run : run.core.epoch.target ≡ target_of (m.steps setup) (m.interval setup) run.core.epoch.time
-      of_run = timed.target ∙ ap (λ s. target_of s run.core.interval run.core.epoch.time) lawful.steady.steps
-          ∙ ap (λ i. target_of (m.steps setup) i run.core.epoch.time) lawful.steady.interval
+      of_run : run.core.epoch.target ≡ target_in (m.steps setup) (m.interval setup) run.core.epoch
+      of_run = timed.target ∙ ap (λ s. target_in s run.core.interval run.core.epoch) lawful.steady.steps
+          ∙ ap (λ i. target_in (m.steps setup) i run.core.epoch) lawful.steady.interval
 
       more_rounds : (a b n : ℕ) → a ≤ b → a * n ≤ n * b
       more_rounds a b n less = omega (arith, mul-le-mul_left n less)
@@ -744,7 +749,7 @@ module _ {S L M T R : Type 0} (m : Meanings S L M T R) (good : S → Epoch → �
         all_epochs (intervals_in (m.steps setup) (m.interval setup)) (m.ranks setup) (m.ranks setup * most_left (m.ranks setup) rounds),
       )
     where
-      all_epochs : (a n b : ℕ) → (a + 1 + n) * b ≡ b * (a + n) + b
+      all_epochs : (a n b : ℕ) → (a + 1 + 2 * n) * b ≡ b * (a + 2 * n + 0) + b
       all_epochs a n b = omega arith
 
 module _ {S L M T R : Type 0} (m : Meanings S L M T R) (good : S → Epoch → ℕ → List L → Type 0) (setup : S)

@@ -36,11 +36,16 @@ left_of over Ended steps = 0
 left_of over Dead steps = 0
 left_of over Gone steps = 0
 
--- at least as many as decisions may still come: a commit for each interval up to the last step, and one that leaves a member behind or ends
--- the run for each member
+-- a commit more where the copies of the agreed snapshot are being made again
+abbrev pub repairs_left : Epoch → ℕ
+repairs_left epoch = if epoch.restored then 1 else 0
+
+-- at least as many as decisions may still come: a commit for each interval up to the last step, and for each member one that leaves it
+-- behind or ends the run, and the commit after that
 unfoldable pub epochs_left : State → ℕ
 epochs_left state =
-    if is_some state.outcome then 0 else intervals_in (state.steps - state.epoch.time) state.interval + length state.epoch.members
+    if is_some state.outcome then 0
+    else intervals_in (state.steps - state.epoch.time) state.interval + 2 * length state.epoch.members + repairs_left state.epoch
 
 -- as much as may be left of any rank in an epoch of so many rounds: its leave, its arrival and its death, and in each round a send
 -- to each other rank and a receive from it
@@ -72,4 +77,4 @@ module _ {S L M T R : Type 0} (m : Meanings S L M T R) (setup : S) where
   -- ranks, and an epoch for each interval, each rank and the end
   unfoldable pub most_events : (rounds : ℕ) → ℕ
   most_events rounds =
-      (intervals_in (m.steps setup) (m.interval setup) + 1 + m.ranks setup) * (m.ranks setup * most_left (m.ranks setup) rounds)
+      (intervals_in (m.steps setup) (m.interval setup) + 1 + 2 * m.ranks setup) * (m.ranks setup * most_left (m.ranks setup) rounds)

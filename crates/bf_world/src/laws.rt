@@ -2,7 +2,7 @@
 ghost use Rattle.std.specs.Prelude.{◌≡◌, ◌≢◌, ℕ, ◌+◌, ◌<◌, ◌≤◌, ◌⊎◌, false, IsTrue, List, [], ◌∷◌, ◌++◌, length, Some, is_some, IsPermutation};
 ghost use Rattle.std.specs.List.{list_any};
 ghost use Rattle.bf_buddy.specs.Members.{is_member};
-ghost use Rattle.bf_program.specs.Epochs.{target_of};
+ghost use Rattle.bf_program.specs.Epochs.{target_in};
 ghost use Rattle.bf_program.specs.declared.epoch.Epoch.{Epoch};
 ghost use Rattle.bf_core.specs.declared.event.Event.{Event};
 ghost use Rattle.bf_core.specs.declared.outcome.Outcome.{Outcome};
@@ -115,7 +115,7 @@ pub fn an_event_lowers_what_is_left<P: RankProgram>()
 /// run's do count for the rounds: a snapshot's interval after their time, or at the last step.
 pub fn a_journal_is_bounded<P: RankProgram>()
     ensures { (setup : P.Setup) (journal : List Event) (rounds : ℕ)
-        → ((epoch : Epoch) → epoch.target ≡ target_of (P.meanings.steps setup) (P.meanings.interval setup) epoch.time → P.meanings.rounds setup epoch ≤ rounds)
+        → ((epoch : Epoch) → epoch.target ≡ target_in (P.meanings.steps setup) (P.meanings.interval setup) epoch → P.meanings.rounds setup epoch ≤ rounds)
         → IsTrue (is_journal P.meanings setup journal) → length journal ≤ most_events P.meanings setup rounds }
 {}
 
