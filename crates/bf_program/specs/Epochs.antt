@@ -3,9 +3,13 @@ use Rattle.std.specs.Prelude.{ℕ, ◌+◌, false, true, List, min, if◌then◌
 use Rattle.std.specs.List.{range_with_len}
 use Rattle.bf_program.specs.declared.epoch.Epoch.{Epoch}
 
--- the time to which an epoch runs that begins at a time: a snapshot's interval on, or the end of the run
+-- the time to which an epoch with steps runs that begins at a time: a snapshot's interval on, or the end of the run
 abbrev pub target_of : (steps interval time : ℕ) → ℕ
 target_of steps interval time = min (time + interval) steps
+
+-- the time to which an epoch runs: one that a restore began has no steps, it only makes the copies again
+abbrev pub target_in : (steps interval : ℕ) → Epoch → ℕ
+target_in steps interval epoch = if epoch.restored then epoch.time else target_of steps interval epoch.time
 
 -- the number of the next epoch; a count stands still at the end of its type
 abbrev pub next_number : ℕ → ℕ
@@ -33,11 +37,7 @@ epoch_after_commit steps interval epoch = record {
   restored = false;
 }
 
--- the time to which an epoch runs: one that a restore began only makes the copies again
-abbrev pub target_in : (steps interval : ℕ) → Epoch → ℕ
-target_in steps interval epoch = if epoch.restored then epoch.time else target_of steps interval epoch.time
-
--- the epoch after a restore: the live lay the snapshot that was agreed before once more
+-- the epoch after a restore: the live make the copies of the snapshot that was agreed before again, and agree on it anew
 abbrev pub epoch_after_restore : (live : List ℕ) → Epoch → Epoch
 epoch_after_restore live epoch = record {
   number = next_number epoch.number;

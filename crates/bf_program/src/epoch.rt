@@ -10,7 +10,8 @@ pub struct Epoch {
     pub number: u32,
     /// The time of the agreed snapshot.
     pub time: u32,
-    /// The time that the epoch runs to.
+    /// The time that the epoch runs to. Where a restore began it, this is its own time: it has no steps, and only makes the
+    /// copies of the agreed snapshot again.
     pub target: u32,
     /// The ranks that take part.
     pub members: Members,
@@ -20,7 +21,7 @@ pub struct Epoch {
     pub restored: bool,
 }
 
-/// The time to which an epoch runs that begins at `time`: `interval` on, or `steps`, where the run ends.
+/// The time to which an epoch with steps runs that begins at `time`: `interval` on, or `steps`, where the run ends.
 pub fn target_of(steps: u32, interval: u32, time: u32) -> u32
     ensures { result ≡ target_of steps interval time }
 {
@@ -44,6 +45,7 @@ impl Epoch {
     }
 
     /// The epoch after a commit of this one: the same members go on from its target, and are the homes of its snapshot.
+    /// After the commit of an epoch that a restore began, this is the time from which that one began.
     pub fn after_commit(self, steps: u32, interval: u32) -> Self
         ensures { result ≡ epoch_after_commit steps interval self }
     {
@@ -57,7 +59,7 @@ impl Epoch {
         }
     }
 
-    /// The epoch after a restore: the live members go on from the snapshot that was agreed before.
+    /// The epoch after a restore: the live members make the copies of the snapshot that was agreed before again.
     pub fn after_restore(self, live: Members) -> Self
         ensures { result ≡ epoch_after_restore live self }
     {

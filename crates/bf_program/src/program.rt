@@ -56,7 +56,7 @@ pub trait RankProgram {
     fn snapshot(setup: &Self::Setup) -> u32
         ensures { result ≡ meanings.interval setup.now };
 
-    /// The time to which an epoch runs that begins at `time`.
+    /// The time to which an epoch runs that begins at `time` and that no restore began.
     fn target(setup: &Self::Setup, time: u32) -> u32
         ensures { result ≡ target_of (meanings.steps setup.now) (meanings.interval setup.now) time };
 
@@ -64,7 +64,8 @@ pub trait RankProgram {
     fn dies(setup: &Self::Setup, rank: u32) -> Option<u32>
         ensures { result ≡ meanings.death setup.now rank };
 
-    /// The number of rounds of an epoch.
+    /// The number of rounds of an epoch. It follows the epoch's target, so an epoch that a restore began has no more of them
+    /// than its snapshot takes.
     fn rounds(setup: &Self::Setup, epoch: Epoch) -> u32
         ensures { result ≡ meanings.rounds setup.now epoch };
 

@@ -111,8 +111,11 @@ pub fn an_event_lowers_what_is_left<P: RankProgram>()
         → weight P.meanings setup (run_after P.meanings setup (journal ++ event ∷ [])) < weight P.meanings setup (run_after P.meanings setup journal) }
 {}
 
-/// So a journal is bounded by the numbers of ranks, of rounds of an epoch, and of snapshots. Only epochs that end where a
-/// run's do count for the rounds: a snapshot's interval after their time, or at the last step.
+/// So a journal is bounded by the numbers of ranks, of rounds of an epoch, and of snapshots. For `n` ranks and at most `K`
+/// rounds it has at most `E n (2 (n - 1) K + 3)` events, where `E` is the number of snapshots in all steps, rounded up, plus
+/// `1 + 2 n`: each rank may leave by a restore, and the epoch which that begins may end in a commit at its own time. Only
+/// epochs that end where a run's do count for the rounds: at their own time where a restore began them, else a snapshot's
+/// interval on, or at the last step.
 pub fn a_journal_is_bounded<P: RankProgram>()
     ensures { (setup : P.Setup) (journal : List Event) (rounds : ℕ)
         → ((epoch : Epoch) → epoch.target ≡ target_in (P.meanings.steps setup) (P.meanings.interval setup) epoch → P.meanings.rounds setup epoch ≤ rounds)

@@ -98,6 +98,12 @@ fn pair(alloc: Global, steps: u32, dies: &[(u32, u32)]) -> Result<CoreState, Mem
     CoreState::begin(alloc, 2, Members::all(2), dies, 0, steps, 1)
 }
 
+// Whether the snapshot of a time was agreed again, and work goes on from it to a later time.
+fn is_repaired(core: &CoreState, time: u32, target: u32) -> bool {
+    let epoch = core.epoch();
+    core.outcome().is_none() && !epoch.restored && epoch.time == time && epoch.target == target
+}
+
 // What two ranks do in a round, turn by turn.
 fn round(round: u32) -> [Move; 4] {
     [
@@ -118,7 +124,10 @@ fn an_arrival_of_the_other_restores(rt: HostRuntime) -> Result<(), Fail> {
     assert!(rt; plays(&rt, &mut core, 32, &[done(0)]));
     assert!(rt; core.epoch().restored);
     assert_eq!(rt; core.epoch().time, 0);
+    assert_eq!(rt; core.epoch().target, 0);
     assert_eq!(rt; core.epoch().members.count(), 1);
+    assert!(rt; plays(&rt, &mut core, 1, &[leave(0), done(0)]));
+    assert!(rt; is_repaired(&core, 0, 1));
     assert!(rt; plays(&rt, &mut core, 1, &[leave(0), done(0)]));
     assert_eq!(rt; core.outcome(), Some(Outcome::Finished));
     assert!(rt; plays(&rt, &mut core, 1, &[leave(0)]));
@@ -146,7 +155,9 @@ fn a_death_after_the_commit_goes_back_to_it(rt: HostRuntime) -> Result<(), Fail>
     assert!(rt; plays(&rt, &mut core, 32, &[broken(0, (0, 1, 0))]));
     assert!(rt; core.epoch().restored);
     assert_eq!(rt; core.epoch().time, 1);
-    assert_eq!(rt; core.epoch().target, 2);
+    assert_eq!(rt; core.epoch().target, 1);
+    assert!(rt; plays(&rt, &mut core, 1, &[leave(0), done(0)]));
+    assert!(rt; is_repaired(&core, 1, 2));
     assert!(rt; plays(&rt, &mut core, 1, &[leave(0), done(0)]));
     assert_eq!(rt; core.outcome(), Some(Outcome::Finished));
     assert!(rt; plays(&rt, &mut core, 1, &[leave(0)]));
@@ -183,7 +194,7 @@ fn round_of_two(round: u32) -> [Move; 4] {
 }
 
 #[test]
-fn two_holders_die_with_a_commit_between(rt: HostRuntime) -> Result<(), Fail> {
+fn two_holders_die_with_a_repair_between(rt: HostRuntime) -> Result<(), Fail> {
     let mut core = CoreState::begin(rt.alloc(), 3, Members::all(3), &[(0, 0), (1, 10)], 0, 2, 1)?;
     let sends = [
         die(0),
@@ -196,24 +207,24 @@ fn two_holders_die_with_a_commit_between(rt: HostRuntime) -> Result<(), Fail> {
     ];
     assert!(rt; plays(&rt, &mut core, 32, &sends));
     assert!(rt; core.epoch().restored);
+    assert_eq!(rt; core.epoch().target, 0);
     assert!(rt; plays(&rt, &mut core, 0, &[leave(1), leave(2)]));
     assert!(rt; plays(&rt, &mut core, 0, &round_of_two(0)));
-    assert!(rt; plays(&rt, &mut core, 0, &round_of_two(1)));
     assert!(rt; plays(&rt, &mut core, 0, &[done(1), done(2)]));
-    assert_eq!(rt; core.epoch().time, 1);
+    assert!(rt; is_repaired(&core, 0, 1));
     assert_eq!(rt; core.epoch().homes.count(), 2);
-    let deaths = [
-        leave(1),
-        leave(2),
-        die(1),
-        send(2, 1, (0, 0, 0)),
-        broken(2, (0, 1, 0)),
-    ];
+    assert!(rt; plays(&rt, &mut core, 0, &[leave(1), leave(2)]));
+    assert!(rt; plays(&rt, &mut core, 0, &round_of_two(0)));
+    let deaths = [die(1), send(2, 1, (1, 0, 0)), broken(2, (1, 1, 0))];
     assert!(rt; plays(&rt, &mut core, 0, &deaths));
     assert_eq!(rt; core.outcome(), None);
     assert!(rt; core.epoch().restored);
-    assert_eq!(rt; core.epoch().time, 1);
+    assert_eq!(rt; core.epoch().time, 0);
     assert_eq!(rt; core.epoch().members.at(0), Some(2));
+    assert!(rt; plays(&rt, &mut core, 1, &[leave(2), done(2)]));
+    assert!(rt; is_repaired(&core, 0, 1));
+    assert!(rt; plays(&rt, &mut core, 1, &[leave(2), done(2)]));
+    assert_eq!(rt; core.epoch().time, 1);
     assert!(rt; plays(&rt, &mut core, 1, &[leave(2), done(2), leave(2)]));
     assert_eq!(rt; core.outcome(), Some(Outcome::Finished));
     assert!(rt; core.finished());

@@ -125,7 +125,7 @@ fn a_dead_holder_restores(rt: HostRuntime) -> Result<(), Fail> {
     assert!(rt; epoch.restored);
     assert_eq!(rt; epoch.number, 1);
     assert_eq!(rt; epoch.time, 0);
-    assert_eq!(rt; epoch.target, 1);
+    assert_eq!(rt; epoch.target, 0);
     assert_eq!(rt; epoch.members.place(2), Some(1));
     assert_eq!(rt; epoch.homes.place(2), Some(2));
     assert_eq!(rt; core.outcome(), None);
