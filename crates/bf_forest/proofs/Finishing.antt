@@ -4,7 +4,7 @@ use Rattle.std.specs.Prelude.{nat_lt}
 use Rattle.std.proofs.lemmas.Bool.Decides.{nat_tests}
 use Rattle.bf_buddy.specs.Members.{without}
 use Rattle.bf_program.specs.declared.epoch.Epoch.{Epoch}
-use Rattle.bf_program.specs.Epochs.{target_of}
+use Rattle.bf_program.specs.Epochs.{target_in}
 use Rattle.bf_program.specs.Lockstep.{lockstep}
 use Rattle.bf_program.specs.Points.{IsFinishing}
 use Rattle.bf_block.specs.declared.setup.Setup.{Setup}
@@ -18,6 +18,7 @@ use Rattle.bf_forest.specs.Meanings.{forest}
 use Rattle.bf_forest.specs.NextLaws.{IsSeat, seats_of, known_to, known_models, known_roots, next_good}
 use Rattle.bf_parts.specs.PlainRounds.{plain_receives}
 use Rattle.bf_forest.specs.Ready.{IsReady}
+use Rattle.bf_forest.specs.StageLaws.{target_near}
 use Rattle.bf_forest.specs.Stages.{span, rounds_of, stage_of, time_at}
 use Rattle.bf_forest.specs.StepLaws.{HasRoots}
 
@@ -38,9 +39,11 @@ step_before epoch round is = at (nat_lt round (span epoch)) refl is
     at true test same = grind (arith, nat_tests)
     at false test same = absurd (cc)
 
-goes_on : (steps interval : ℕ) (epoch : Epoch) (round : ℕ) → epoch.time ≤ steps → epoch.target ≡ target_of steps interval epoch.time → round < span epoch → time_at epoch round < steps
+goes_on : (steps interval : ℕ) (epoch : Epoch) (round : ℕ) → epoch.time ≤ steps → epoch.target ≡ target_in steps interval epoch → round < span epoch → time_at epoch round < steps
 unfolding time_at span
-goes_on steps interval epoch round begins ends before = omega arith
+goes_on steps interval epoch round begins ends before =
+    let near = target_near steps interval epoch begins ends in
+    omega (arith, near.1.1, before)
 
 pub finishing_ready : (setup : Setup) (epoch : Epoch) (round : ℕ) (local : ForestLocal) → IsFinishing forest IsGood setup epoch round local
     → stage_of epoch round ≡ Step → (time : ℕ) × IsReady (case_of setup) time local

@@ -174,7 +174,7 @@ restore_good setup epoch round locals lives good none =
     let live = filter lives epoch.members in
     record {
       begins = good.begins;
-      ends = good.ends;
+      ends = refl;
       shared = restores_shared forest forest_look setup (root_count c.roots) (has_parts setup) epoch round locals lives good.shared none;
       models = all_kept (HasModels c epoch round) (HasModels c (restored_epoch lives epoch) 0) lives (λ rank local. restored local.active rank live) epoch.members locals good.models
           (λ rank local has. restored_has c epoch (restored_epoch lives epoch) round rank live local refl has);

@@ -1,7 +1,7 @@
 -- Good vectors of the ranks' locals.
 use Rattle.std.specs.Prelude.{◌≡◌, ℕ, ◌≤◌, List, [], All}
 use Rattle.bf_program.specs.declared.epoch.Epoch.{Epoch}
-use Rattle.bf_program.specs.Epochs.{target_of}
+use Rattle.bf_program.specs.Epochs.{target_in}
 use Rattle.bf_id.specs.Shape.{root_count}
 use Rattle.bf_case.specs.declared.case.Case.{Case}
 use Rattle.bf_block.specs.declared.setup.Setup.{Setup}
@@ -32,6 +32,6 @@ pub record HasModels (c : Case) (epoch : Epoch) (round : ℕ) (local : ForestLoc
 -- holders, and all blocks are the model's
 pub record IsGood (setup : Setup) (epoch : Epoch) (round : ℕ) (locals : List ForestLocal) : Type 0 where
   pub begins : epoch.time ≤ (case_of setup).steps
-  pub ends : epoch.target ≡ target_of (case_of setup).steps (case_of setup).snapshot epoch.time
+  pub ends : epoch.target ≡ target_in (case_of setup).steps (case_of setup).snapshot epoch
   pub shared : IsShared forest_look (root_count (case_of setup).roots) (case_of setup).shift (rounds_of epoch) epoch round locals
   pub models : All (HasModels (case_of setup) epoch round) locals

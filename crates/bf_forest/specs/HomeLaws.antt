@@ -15,6 +15,7 @@ use Rattle.bf_parts.specs.Shares.{is_filled}
 use Rattle.bf_forest.specs.declared.local.ForestLocal.{ForestLocal}
 use Rattle.bf_forest.specs.Goods.{IsGood}
 use Rattle.bf_forest.specs.Meanings.{forest, forest_look}
+use Rattle.bf_forest.specs.StageLaws.{target_near}
 use Rattle.bf_forest.specs.Stages.{span, rounds_of}
 
 some_root : (shape : Shape) → IsShape shape → 0 < root_count shape
@@ -44,4 +45,6 @@ some_home setup epoch round locals good =
 pub round_each : (setup : Setup) (epoch : Epoch) (round : ℕ) (locals : List ForestLocal) → IsGood setup epoch round locals → rounds_of epoch ≡ epoch.target - epoch.time + 1
 unfolding span
 round_each setup epoch round locals good =
-    omega (arith, good.ends, good.begins, (every_setup_runs setup).valid.scheduled.short_snapshot)
+    let c = case_of setup in
+    let near = target_near c.steps c.snapshot epoch good.begins good.ends in
+    omega (arith, near.0, near.1.0, (every_setup_runs setup).valid.scheduled.short_snapshot)
