@@ -69,7 +69,7 @@ module _ {S L M T R : Type 0} (m : Meanings S L M T R) (good : S → Epoch → �
     pub shift : run.core.shift ≡ m.shift setup
     pub steps : run.core.steps ≡ m.steps setup
     pub interval : run.core.interval ≡ m.interval setup
-    pub target : (run.core.epoch.time ≤ m.steps setup) × (run.core.epoch.target ≤ m.steps setup)
+    pub within : (run.core.epoch.time ≤ m.steps setup) × (run.core.epoch.target ≤ m.steps setup)
     pub size : length run.places ≡ m.ranks setup
     pub good_start : good setup run.core.epoch 0 run.start
     pub stored : run.core.stored ≡ m.stored run.start
@@ -119,7 +119,7 @@ module _ {S L M T R : Type 0} (m : Meanings S L M T R) (good : S → Epoch → �
         shift = steady.shift;
         steps = steady.steps;
         interval = steady.interval;
-        target = steady.target;
+        within = steady.within;
         size = length-set run.places rank _ ∙ steady.size;
         good_start = steady.good_start;
         stored = steady.stored;
@@ -148,7 +148,7 @@ module _ {S L M T R : Type 0} (m : Meanings S L M T R) (good : S → Epoch → �
         shift = steady.shift;
         steps = steady.steps;
         interval = steady.interval;
-        target = steady.target;
+        within = steady.within;
         size = length-set run.places rank _ ∙ steady.size;
         good_start = steady.good_start;
         stored = steady.stored;
@@ -173,7 +173,7 @@ module _ {S L M T R : Type 0} (m : Meanings S L M T R) (good : S → Epoch → �
     shift = steady.shift;
     steps = steady.steps;
     interval = steady.interval;
-    target = steady.target;
+    within = steady.within;
     size = steady.size;
     good_start = steady.good_start;
     stored = steady.stored;
@@ -231,7 +231,7 @@ module _ {S L M T R : Type 0} (m : Meanings S L M T R) (good : S → Epoch → �
     shift = steady.shift;
     steps = steady.steps;
     interval = steady.interval;
-    target = steady.target;
+    within = steady.within;
     size = steady.size;
     good_start = steady.good_start;
     stored = steady.stored;
@@ -255,12 +255,12 @@ module _ {S L M T R : Type 0} (m : Meanings S L M T R) (good : S → Epoch → �
       → core.interval ≡ m.interval setup → (core.epoch.time ≤ m.steps setup) × (core.epoch.target ≤ m.steps setup) → good setup core.epoch 0 start → core.stored ≡ m.stored start
       → ((rank : ℕ) (filled : Bool) → stage core rank ≡ Arrived Done filled → ⊥) → IsSteady (begun m setup core start parcels)
   unfolding first_places
-  begun_steady core start parcels ranks shift steps interval target good_start stored undone = record {
+  begun_steady core start parcels ranks shift steps interval within good_start stored undone = record {
     ranks = ranks;
     shift = shift;
     steps = steps;
     interval = interval;
-    target = target;
+    within = within;
     size = length-map-range_with_len (first_place m setup core.epoch start) 0 (m.ranks setup);
     good_start = good_start;
     stored = stored;
@@ -330,12 +330,12 @@ module _ {S L M T R : Type 0} (m : Meanings S L M T R) (good : S → Epoch → �
       → IsSteady m good setup (begun m setup (committed run.core) (map m.keep (last_locals m setup run)) parcels)
   unfolding dissolved
   committed_steady run parcels steady apart all_done unended =
-      let goes : run.core.epoch.target < m.steps setup = below run.core.epoch.target (m.steps setup) steady.target.1
+      let goes : run.core.epoch.target < m.steps setup = below run.core.epoch.target (m.steps setup) steady.within.1
       (ap (λ n. run.core.epoch.target == n) (sym steady.steps) ∙ unended) in
       let kept : good setup (epoch_after_commit (m.steps setup) (m.interval setup) run.core.epoch) 0 (map m.keep (last_locals m setup run)) =
       goods.keep run.core.epoch (last_locals m setup run) (last_good run steady) goes in
       begun_steady m good setup (committed run.core) (map m.keep (last_locals m setup run)) parcels steady.ranks steady.shift steady.steps steady.interval
-      (steady.target.1, limit run.core.steps run.core.interval run.core.epoch.target steady.steps)
+      (steady.within.1, limit run.core.steps run.core.interval run.core.epoch.target steady.steps)
       (moved run.core.steps run.core.interval steady.steps steady.interval kept)
       (flags_agree run steady apart all_done ∙ sym (stores.keep run.core.epoch (last_locals m setup run) (last_good run steady) goes))
       (λ rank filled arrived. dissolved_undone m good setup run.core rank filled arrived)
@@ -364,7 +364,7 @@ module _ {S L M T R : Type 0} (m : Meanings S L M T R) (good : S → Epoch → �
       ap (λ stored. first_lost_of run.core.epoch.homes stored (filter (λ rank. lives (stage run.core rank)) run.core.epoch.members) (m.shift setup)) (sym steady.stored)
       ∙ ap (first_lost_of run.core.epoch.homes run.core.stored (filter (λ rank. lives (stage run.core rank)) run.core.epoch.members)) (sym steady.shift) ∙ whole in
       begun_steady m good setup (restored run.core) (restored_locals m setup run.core.epoch (λ rank. lives (stage run.core rank)) run.start) []
-      steady.ranks steady.shift steady.steps steady.interval (steady.target.0, steady.target.0)
+      steady.ranks steady.shift steady.steps steady.interval (steady.within.0, steady.within.0)
       (goods.restore run.core.epoch 0 run.start (λ rank. lives (stage run.core rank)) steady.good_start none)
       (steady.stored ∙ sym (stores.restore run.core.epoch 0 run.start (λ rank. lives (stage run.core rank)) steady.good_start none))
       (λ rank filled arrived. dissolved_undone m good setup run.core rank filled arrived)

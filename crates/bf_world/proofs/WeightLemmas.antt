@@ -51,8 +51,7 @@ use Rattle.bf_core.proofs.ListLemmas.{in_filtered, fails_at}
 use Rattle.bf_world.proofs.RunLemmas.{run_more, ripe_next}
 use Rattle.bf_world.proofs.WaitingLemmas.{below_end}
 
--- the target of every epoch is the one of its time
-
+-- the target of every epoch is its own time where a restore began it, else the one of its time
 pub record IsTimed (state : State) : Type 0 where
   pub target : state.epoch.target ≡ target_in state.steps state.interval state.epoch
 
