@@ -1,10 +1,11 @@
 //! Small cases of one row of roots, each run by its ranks: without deaths, with deaths that are survived, and with a loss.
+//! One is told event by event, as in the rules' story of a death.
 //!
 //! Of two roots with cells of 80 and 0, one step makes 80 70 and 10 0 of each row of cells, and two make 78 63 and 16 1.
 use crate::{leaves, run};
 use bf_block::{Block, Memory};
 use bf_case::{Case, Fill};
-use bf_core::Outcome;
+use bf_core::{Event, How, Outcome};
 use bf_forest::Forest;
 use bf_id::Shape;
 use bf_items::Items;
@@ -84,6 +85,55 @@ fn expect_leaves(
     Ok(())
 }
 
+// Of three roots the last has got nothing within two steps.
+fn expect_three_leaves(
+    rt: &impl Abort,
+    alloc: Global,
+    world: &World<Forest>,
+) -> Result<(), Memory> {
+    expect_leaves(rt, alloc, world, 3, [78, 63, 16, 1])?;
+    let blocks = leaves(alloc, world.parcels())?;
+    assert!(rt; 2 < blocks.len());
+    expect_block(rt, blocks[2], 2, 0, 0);
+    Ok(())
+}
+
+// The run has had so many restores and events, and its last epoch this number and these times.
+fn expect_course(
+    rt: &impl Abort,
+    world: &World<Forest>,
+    restores: u32,
+    events: usize,
+    last: [u32; 3],
+) {
+    let epoch = world.epoch();
+    assert_eq!(rt; world.restores(), restores);
+    assert_eq!(rt; world.journal().len(), events);
+    assert_eq!(rt; [epoch.number, epoch.time, epoch.target], last);
+    assert!(rt; !epoch.restored);
+}
+
+// Messages of one block.
+fn send(rank: u32, to: u32, sum: u64) -> Event {
+    Event::Send {
+        rank,
+        to,
+        blocks: 1,
+        sum,
+    }
+}
+
+fn recv(rank: u32, peer: u32) -> Event {
+    Event::Recv { rank, peer }
+}
+
+fn done(rank: u32) -> Event {
+    Event::Arrive {
+        rank,
+        how: How::Done,
+    }
+}
+
 const TWO: Row = Row {
     roots: 2,
     ranks: 2,
@@ -156,16 +206,52 @@ fn a_death_at_the_opening_is_survived(rt: HostRuntime) -> Result<(), Fail> {
     Ok(())
 }
 
+// Rank 1 dies once it has arrived. A step makes 80 70 of four rows of 80 80, with a sum of 600, and 10 0 of four rows of
+// 0 0, with a sum of 40.
 #[test]
-fn the_others_arrival_restores(rt: HostRuntime) -> Result<(), Fail> {
+fn a_death_its_restore_and_its_repair(rt: HostRuntime) -> Result<(), Fail> {
     let alloc = rt.alloc();
     let dies = vec![in alloc; (1, 5)]?;
     let order = vec![in alloc; 0, 1, 0, 1, 0, 1, 0, 1, 1, 1]?;
     let row = Row { steps: 1, ..TWO };
     let world = driven(&rt, alloc, row.case(alloc, dies, order)?)?;
-    assert_eq!(rt; world.restores(), 1);
-    assert_eq!(rt; world.journal().len(), 14);
+    let told = [
+        send(0, 1, 640),
+        send(1, 0, 0),
+        recv(0, 1),
+        recv(1, 0),
+        send(0, 1, 600),
+        send(1, 0, 40),
+        recv(0, 1),
+        recv(1, 0),
+        done(1),
+        Event::Die { rank: 1 },
+        done(0),
+        Event::Leave { rank: 0 },
+        done(0),
+        Event::Leave { rank: 0 },
+        done(0),
+        Event::Leave { rank: 0 },
+    ];
+    assert_eq!(rt; world.journal(), told.as_slice());
+    expect_course(&rt, &world, 1, 16, [2, 0, 1]);
+    assert_eq!(rt; world.epoch().homes.at(0), Some(0));
+    assert_eq!(rt; world.epoch().homes.count(), 1);
     expect_leaves(&rt, alloc, &world, 2, [80, 70, 10, 0])?;
+    Ok(())
+}
+
+// At the last step there is nothing to go on to.
+#[test]
+fn a_repair_at_the_last_step_ends_the_run(rt: HostRuntime) -> Result<(), Fail> {
+    let alloc = rt.alloc();
+    let dies = vec![in alloc; (1, 0)]?;
+    let row = Row { steps: 0, ..TWO };
+    let world = driven(&rt, alloc, row.case(alloc, dies, Vec::new(alloc))?)?;
+    assert!(rt; world.epoch().restored);
+    assert_eq!(rt; world.epoch().number, 1);
+    assert_eq!(rt; world.journal().len(), 6);
+    expect_leaves(&rt, alloc, &world, 2, [80, 80, 0, 0])?;
     Ok(())
 }
 
@@ -175,8 +261,7 @@ fn a_death_after_a_commit_goes_back_to_it(rt: HostRuntime) -> Result<(), Fail> {
     let dies = vec![in alloc; (1, 5)]?;
     let order = vec![in alloc; 0, 1, 0, 1, 0, 1, 0, 1, 1, 0]?;
     let world = driven(&rt, alloc, TWO.case(alloc, dies, order)?)?;
-    assert_eq!(rt; world.restores(), 1);
-    assert_eq!(rt; world.journal().len(), 17);
+    expect_course(&rt, &world, 1, 19, [3, 1, 2]);
     expect_leaves(&rt, alloc, &world, 2, [78, 63, 16, 1])?;
     Ok(())
 }
@@ -197,12 +282,40 @@ fn two_holders_die(rt: HostRuntime) -> Result<(), Fail> {
     Ok(())
 }
 
+// Rank 1 has 8 events until it leaves the epoch in which rank 2 and it make the copies again, and dies 2 events later.
 #[test]
-fn a_commit_between_two_deaths_saves_the_run(rt: HostRuntime) -> Result<(), Fail> {
+fn a_repair_between_two_deaths_saves_the_run(rt: HostRuntime) -> Result<(), Fail> {
     let alloc = rt.alloc();
     let dies = vec![in alloc; (0, 0), (1, 10)]?;
     let world = driven(&rt, alloc, THREE.case(alloc, dies, Vec::new(alloc))?)?;
-    expect_leaves(&rt, alloc, &world, 3, [78, 63, 16, 1])?;
+    expect_course(&rt, &world, 2, 31, [5, 1, 2]);
+    expect_three_leaves(&rt, alloc, &world)?;
+    Ok(())
+}
+
+// The copies that are made again come before any step, so they save the run although no other snapshot comes between.
+#[test]
+fn a_repair_comes_before_the_steps(rt: HostRuntime) -> Result<(), Fail> {
+    let alloc = rt.alloc();
+    let dies = vec![in alloc; (0, 0), (1, 8)]?;
+    let case = Case {
+        snapshot: 2,
+        ..THREE.case(alloc, dies, Vec::new(alloc))?
+    };
+    let world = driven(&rt, alloc, case)?;
+    expect_course(&rt, &world, 2, 25, [4, 0, 2]);
+    expect_three_leaves(&rt, alloc, &world)?;
+    Ok(())
+}
+
+// Rank 1 has 6 more events until it leaves the epoch whose commit agrees on time 1.
+#[test]
+fn a_commit_after_the_repair_is_gone_back_to(rt: HostRuntime) -> Result<(), Fail> {
+    let alloc = rt.alloc();
+    let dies = vec![in alloc; (0, 0), (1, 14)]?;
+    let world = driven(&rt, alloc, THREE.case(alloc, dies, Vec::new(alloc))?)?;
+    expect_course(&rt, &world, 2, 37, [5, 1, 2]);
+    expect_three_leaves(&rt, alloc, &world)?;
     Ok(())
 }
 
