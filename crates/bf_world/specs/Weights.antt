@@ -74,7 +74,7 @@ module _ {S L M T R : Type 0} (m : Meanings S L M T R) (setup : S) where
   weight run = weight_within (2 ^ 32 - 1) run
 
   -- how many events a journal has at most, where no epoch has more rounds than so many: in each epoch those that may be left of all
-  -- ranks, and an epoch for each interval, each rank and the end
+  -- ranks, and an epoch for each interval, two for each rank and one for the end
   unfoldable pub most_events : (rounds : ℕ) → ℕ
   most_events rounds =
       (intervals_in (m.steps setup) (m.interval setup) + 1 + 2 * m.ranks setup) * (m.ranks setup * most_left (m.ranks setup) rounds)
