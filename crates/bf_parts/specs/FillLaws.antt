@@ -149,7 +149,7 @@ part_is key count shift homes home_of rank home side up is_home is =
     (λ same some. ap (is_filled count home_of) (sym (eqb-true (predecessor_of homes rank shift) home same)) ∙ copies_fill key count shift homes home_of rank side.other up is_home is.other some)
 
 -- a test that passes at a local
-any_seat : {L : Type 0} (test : L → Bool) (members : List ℕ) (locals : List L) (rank : ℕ) (local : L) → local_of members locals rank ≡ Some local → test local ≡ true
+pub any_seat : {L : Type 0} (test : L → Bool) (members : List ℕ) (locals : List L) (rank : ℕ) (local : L) → local_of members locals rank ≡ Some local → test local ≡ true
     → list_any test locals ≡ true
 any_seat test [] locals rank local its found = absurd (cc)
 any_seat test (member ∷ members) [] rank local its found = absurd (cc)
@@ -162,7 +162,7 @@ any_seat {L = L} test (member ∷ members) (x ∷ locals) rank local its found =
     at later true here = let passes : test x ≡ true = ap test (same x local here) ∙ found in rw passes refl
     at later false there = or_right (test x) (list_any test locals) (later there)
 
-seat_any : {L : Type 0} (R : ℕ → L → Type 0) (test : L → Bool) (members : List ℕ) (locals : List L) → AllZip R members locals → list_any test locals ≡ true
+pub seat_any : {L : Type 0} (R : ℕ → L → Type 0) (test : L → Bool) (members : List ℕ) (locals : List L) → AllZip R members locals → list_any test locals ≡ true
     → (rank : ℕ) × ((local : L) × (R rank local × (test local ≡ true)))
 seat_any R test [] [] each found = absurd (cc)
 seat_any R test [] (x ∷ locals) each found = absurd each
@@ -214,13 +214,13 @@ part_found {L = L} look count shift homes members home_of locals home seats is_h
         eq-eqb (predecessor_of homes (buddy_of homes home shift) shift) home (predecessor_undoes homes home shift seats.holders.homes_rise is_home) in
         rw back (or-true (buddy_of homes home shift == home))) filled
 
-filters_same : (p q : ℕ → Bool) (xs : List ℕ) → ((x : ℕ) → is_member xs x ≡ true → p x ≡ q x) → filter p xs ≡ filter q xs
+pub filters_same : (p q : ℕ → Bool) (xs : List ℕ) → ((x : ℕ) → is_member xs x ≡ true → p x ≡ q x) → filter p xs ≡ filter q xs
 filters_same p q [] same = refl
 filters_same p q (x ∷ xs) same =
     let here : (x == x) ≡ true = eq-eqb x x refl in
     rw (same x (rw here refl)) (ap (λ rest. cond (q x) (x ∷ rest) rest) (filters_same p q xs (λ y is_in. same y (or_right (x == y) (is_member xs y) is_in))))
 
-none_pass : (p : ℕ → Bool) (xs : List ℕ) → ((x : ℕ) → is_member xs x ≡ true → p x ≡ false) → filter p xs ≡ []
+pub none_pass : (p : ℕ → Bool) (xs : List ℕ) → ((x : ℕ) → is_member xs x ≡ true → p x ≡ false) → filter p xs ≡ []
 none_pass p xs fails = filters_same p (λ x. false) xs fails ∙ none xs
   where
     none : (ys : List ℕ) → filter (λ y. false) ys ≡ []

@@ -16,12 +16,12 @@ use Rattle.bf_parts.specs.ShareLaws.{mine}
 
 -- whom a rank sees among members, where it does not see itself and is seen by those whom it sees
 module _ (sees : ℕ → ℕ → Bool) where
-  seen_others : (members : List ℕ) (rank : ℕ) → sees rank rank ≡ false → All (λ peer. IsTrue (is_member members peer) × (peer ≢ rank)) (filter (sees rank) members)
+  pub seen_others : (members : List ℕ) (rank : ℕ) → sees rank rank ≡ false → All (λ peer. IsTrue (is_member members peer) × (peer ≢ rank)) (filter (sees rank) members)
   seen_others members rank apart =
       all_passed (λ peer. IsTrue (is_member members peer) × (peer ≢ rank)) (sees rank) members
       (λ peer is_in passes. (is_in, λ again. let e : true ≡ false = sym passes ∙ ap (sees rank) again ∙ apart in cc))
 
-  seen_back : (members : List ℕ) (rank peer : ℕ) → sees rank peer ≡ sees peer rank → is_member members rank ≡ true
+  pub seen_back : (members : List ℕ) (rank peer : ℕ) → sees rank peer ≡ sees peer rank → is_member members rank ≡ true
       → is_member (filter (sees rank) members) peer ≡ true → is_member (filter (sees peer) members) rank ≡ true
   seen_back members rank peer same is_in seen =
       let one : sees rank peer ≡ true = (and_parts (is_member members peer) (sees rank peer) (sym (member_filter (sees rank) members peer) ∙ seen)).1 in

@@ -66,7 +66,7 @@ module _ {L I : Type 0} (look : Look L I) where
       (λ home. any_same home f members locals its its_after same) (homes_of look locals)
 
 -- the members whose part of the new snapshot has an item
-filled_of : {S L M T R : Type 0} (m : Meanings S L M T R) (P : ℕ → L → Type 0) (test : ℕ → Bool) (members : List ℕ) (locals : List L) → AllZip P members locals
+pub filled_of : {S L M T R : Type 0} (m : Meanings S L M T R) (P : ℕ → L → Type 0) (test : ℕ → Bool) (members : List ℕ) (locals : List L) → AllZip P members locals
     → ((rank : ℕ) (local : L) → P rank local → m.filled local ≡ test rank) → filled_members m members locals ≡ filter test members
 unfolding filled_members
 filled_of m P test [] [] each filled = refl
@@ -81,7 +81,7 @@ filled_of {L = L} m P test (member ∷ members) (local ∷ locals) each filled =
     at true later = ap (λ rest. member ∷ rest) later
     at false later = later
 
-stored_homes : (stored homes : List ℕ) (test : ℕ → Bool) → stored ≡ filter test homes → IsStrictlyIncreasing homes
+pub stored_homes : (stored homes : List ℕ) (test : ℕ → Bool) → stored ≡ filter test homes → IsStrictlyIncreasing homes
     → IsStrictlyIncreasing stored × All (λ home. IsTrue (is_member homes home)) stored
 stored_homes stored homes test same up =
     subst (λ (s : List ℕ). IsStrictlyIncreasing s × All (λ home. IsTrue (is_member homes home)) s) (sym same)

@@ -19,7 +19,7 @@ use Rattle.bf_parts.specs.SideLaws.{predecessor_member, copies_are}
 use Rattle.bf_parts.specs.Sides.{has_items, is_given, regained, saved_of}
 
 -- a home whose buddy a rank is, is its predecessor
-before : (shift : ℕ) (homes : List ℕ) (rank home : ℕ) → IsStrictlyIncreasing homes → is_member homes home ≡ true → (rank == home) ≡ false
+pub before : (shift : ℕ) (homes : List ℕ) (rank home : ℕ) → IsStrictlyIncreasing homes → is_member homes home ≡ true → (rank == home) ≡ false
     → is_holder homes shift home rank ≡ true → predecessor_of homes rank shift ≡ home
 before shift homes rank home up is_home other holds = at (home == rank) (eqb_swap home rank ∙ other) holds
   where
@@ -46,7 +46,7 @@ saved_is key count shift homes home_of rank home side up is_in is_home holds is 
         rw source (are.each k ∙ ap (λ r. once (nat_lt k count && (home_of k == r))) its)
 
 -- the sum over the members that pass a test, of a sum of two
-split_sum : (test : ℕ → Bool) (f g h : ℕ → ℕ) (members : List ℕ) → ((member : ℕ) → cond (test member) (f member) 0 ≡ g member + h member)
+pub split_sum : (test : ℕ → Bool) (f g h : ℕ → ℕ) (members : List ℕ) → ((member : ℕ) → cond (test member) (f member) 0 ≡ g member + h member)
     → sum_by f (filter test members) ≡ sum_by g members + sum_by h members
 split_sum test f g h [] split = refl
 split_sum test f g h (member ∷ members) split =
@@ -67,7 +67,7 @@ empty_or_some test (item ∷ items) =
     rw some refl
 
 -- by whether a home is the rank, is its source, and whether the source lives
-given_by : {I : Type 0} (test : I → Bool) (own other : List I) (a c l : Bool) → (a ≡ true → c ≡ true → l ≡ true)
+pub given_by : {I : Type 0} (test : I → Bool) (own other : List I) (a c l : Bool) → (a ≡ true → c ≡ true → l ≡ true)
     → cond ((a && has_items own) || (c && (has_items other && not l))) (count_by test (cond a own (cond c other []))) 0
     ≡ cond a (count_by test own) 0 + cond c (cond l 0 (count_by test other)) 0
 given_by test own other true true true lives = ap (λ b. cond (has_items own || b) (count_by test own) 0) (and-false (has_items other))

@@ -2,9 +2,11 @@
 #![tactic(auto)]
 
 pub mod laws;
+mod restore;
 mod side;
 
 pub use bf_items::Items;
+pub use restore::{Linked, regained};
 pub use side::{Side, gives, source_of};
 
 #[cfg(test)]

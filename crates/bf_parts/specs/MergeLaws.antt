@@ -1,0 +1,74 @@
+-- Parts of two owners merged are the part of both.
+use Rattle.std.proofs.Common.{◌≡◌, Bool, true, false, cond, List, [], ◌∷◌, map, refl, ap, ◌∙◌, arith, suc}
+use Rattle.std.specs.Prelude.{◌||◌, filter, All, AllPairs}
+use Rattle.std.proofs.lemmas.List.Elements.{All-nil, All-cons, All-head, All-tail}
+use Rattle.bf_parts.specs.Merges.{placed, merged}
+
+-- what later keys are to a first one
+pub first_pairs : {K : Type 0} (R : K → K → Type 0) (k : K) (ks : List K) → AllPairs R (k ∷ ks) → All (R k) ks
+first_pairs R k ks pairs = λ j d within. pairs 0 (suc j) d (omega arith) (omega arith)
+
+pub rest_pairs : {K : Type 0} (R : K → K → Type 0) (k : K) (ks : List K) → AllPairs R (k ∷ ks) → AllPairs R ks
+rest_pairs R k ks pairs = λ i j d below within. pairs (suc i) (suc j) d (omega arith) (omega arith)
+
+pub map_twice : {A B C : Type 0} (f : B → C) (g : A → B) (h : A → C) → ((x : A) → f (g x) ≡ h x) → (xs : List A) → map f (map g xs) ≡ map h xs
+map_twice f g h same [] = refl
+map_twice f g h same (x ∷ xs) = ap (λ y. y ∷ map f (map g xs)) (same x) ∙ ap (λ ys. h x ∷ ys) (map_twice f g h same xs)
+
+pub filter_alike : {K : Type 0} (P : K → Type 0) (p q : K → Bool) → ((k : K) → P k → p k ≡ q k) → (ks : List K) → All P ks → filter p ks ≡ filter q ks
+filter_alike P p q same [] all = refl
+filter_alike P p q same (k ∷ ks) all =
+    ap (λ b. cond b (k ∷ filter p ks) (filter p ks)) (same k (All-head P k ks all))
+    ∙ ap (λ rest. cond (q k) (k ∷ rest) rest) (filter_alike P p q same ks (All-tail P k ks all))
+
+module _ {I : Type 0} (first : I → I → Bool) where
+  -- an item that comes before all others
+  placed_first : (x : I) (rest : List I → List I) (ys : List I) → All (λ y. first x y ≡ true) ys → placed first x rest ys ≡ x ∷ rest ys
+  placed_first x rest [] all = refl
+  placed_first x rest (y ∷ ys) all = ap (λ b. cond b (x ∷ rest (y ∷ ys)) (y ∷ placed first x rest ys)) (All-head (λ y. first x y ≡ true) y ys all)
+
+  -- one that comes before all of the first list
+  merged_after : (y : I) (xs ys : List I) → All (λ x. first x y ≡ false) xs → merged first xs (y ∷ ys) ≡ y ∷ merged first xs ys
+  merged_after y [] ys all = refl
+  merged_after y (x ∷ xs) ys all =
+      ap (λ b. cond b (x ∷ merged first xs (y ∷ ys)) (y ∷ placed first x (merged first xs) ys)) (All-head (λ x. first x y ≡ false) x xs all)
+
+-- that the first of two items comes first, and the second doesn't
+abbrev pub Precedes : {K I : Type 0} → (first : I → I → Bool) → (item : K → I) → K → K → Type 0
+Precedes first item i j = (first (item i) (item j) ≡ true) × (first (item j) (item i) ≡ false)
+
+module _ {K I : Type 0} (first : I → I → Bool) (item : K → I) where
+  all_after : (k : K) (p : K → Bool) (ks : List K) → All (Precedes first item k) ks → All (λ y. first (item k) y ≡ true) (map item (filter p ks))
+  all_after k p [] all = All-nil (λ y. first (item k) y ≡ true)
+  all_after k p (j ∷ ks) all = at (p j) (all_after k p ks (All-tail (Precedes first item k) j ks all))
+    where
+      at : (b : Bool) → All (λ y. first (item k) y ≡ true) (map item (filter p ks)) → All (λ y. first (item k) y ≡ true) (map item (cond b (j ∷ filter p ks) (filter p ks)))
+      at true later = All-cons (λ y. first (item k) y ≡ true) (item j) (map item (filter p ks)) (All-head (Precedes first item k) j ks all).0 later
+      at false later = later
+
+  all_before : (k : K) (p : K → Bool) (ks : List K) → All (Precedes first item k) ks → All (λ y. first y (item k) ≡ false) (map item (filter p ks))
+  all_before k p [] all = All-nil (λ y. first y (item k) ≡ false)
+  all_before k p (j ∷ ks) all = at (p j) (all_before k p ks (All-tail (Precedes first item k) j ks all))
+    where
+      at : (b : Bool) → All (λ y. first y (item k) ≡ false) (map item (filter p ks)) → All (λ y. first y (item k) ≡ false) (map item (cond b (j ∷ filter p ks) (filter p ks)))
+      at true later = All-cons (λ y. first y (item k) ≡ false) (item j) (map item (filter p ks)) (All-head (Precedes first item k) j ks all).1 later
+      at false later = later
+
+  -- of keys in rising order, those that pass one test or another
+  pub merged_is : (p q : K → Bool) → ((k : K) → p k ≡ true → q k ≡ false) → (ks : List K) → AllPairs (Precedes first item) ks
+      → merged first (map item (filter p ks)) (map item (filter q ks)) ≡ map item (filter (λ k. p k || q k) ks)
+  merged_is p q apart [] rising = refl
+  merged_is p q apart (k ∷ ks) rising = at (p k) (q k) (apart k) (merged_is p q apart ks (rest_pairs (Precedes first item) k ks rising))
+    where
+      after : All (Precedes first item k) ks
+      after = first_pairs (Precedes first item) k ks rising
+
+      at : (a b : Bool) → (a ≡ true → b ≡ false) → merged first (map item (filter p ks)) (map item (filter q ks)) ≡ map item (filter (λ k. p k || q k) ks)
+          → merged first (map item (cond a (k ∷ filter p ks) (filter p ks))) (map item (cond b (k ∷ filter q ks) (filter q ks)))
+          ≡ map item (cond (a || b) (k ∷ filter (λ k. p k || q k) ks) (filter (λ k. p k || q k) ks))
+      at true true alone later = absurd (let e : true ≡ false = alone refl in cc)
+      at true false alone later = placed_first first (item k) (merged first (map item (filter p ks))) (map item (filter q ks)) (all_after k q ks after)
+          ∙ ap (λ rest. item k ∷ rest) later
+      at false true alone later = merged_after first (item k) (map item (filter p ks)) (map item (filter q ks)) (all_before k p ks after)
+          ∙ ap (λ rest. item k ∷ rest) later
+      at false false alone later = later

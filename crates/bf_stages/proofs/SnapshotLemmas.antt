@@ -1,0 +1,131 @@
+-- The snapshot round fills the spare sides.
+use Rattle.std.proofs.Common.{◌≡◌, ℕ, Bool, true, false, cond, List, [], ◌∷◌, ◌++◌, ◌+◌, arith, refl, ap, sym, ◌∙◌}
+use Rattle.std.specs.Prelude.{◌==◌, filter, Option, Some, None}
+use Rattle.std.specs.List.{fold, count_by}
+use Rattle.std.specs.List.Sorted.{IsStrictlyIncreasing}
+use Rattle.std.proofs.lemmas.Bool.{eqb-true, eqb-false, eq-eqb}
+use Rattle.bf_buddy.specs.Members.{is_member}
+use Rattle.bf_buddy.specs.Buddy.{predecessor_of}
+use Rattle.bf_program.specs.declared.epoch.Epoch.{Epoch}
+use Rattle.bf_parts.specs.Hearing.{HearsOne, nothing_heard, one_heard, source_is}
+use Rattle.bf_parts.specs.Seats.{member_filter}
+use Rattle.bf_parts.specs.SideLaws.{gives_is, predecessor_member}
+use Rattle.bf_parts.specs.Sides.{gives, source_of}
+use Rattle.bf_rounds.specs.Gathering.{gathered, AreMutual, Gathers}
+use Rattle.bf_parts.specs.Leaves.{Leaves, part_of}
+use Rattle.bf_parts.specs.Views.{View}
+use Rattle.bf_parts.specs.Spreads.{Trio, view_at}
+use Rattle.bf_parts.specs.SnapshotRounds.{are_paired}
+use Rattle.bf_parts.specs.SnapshotLaws.{paired_apart, paired_both, paired_holders}
+use Rattle.bf_stages.specs.Leading.{LeadsBy, as_delivery, Weighs}
+use Rattle.bf_stages.specs.Snapshots.{heard_part, given_part, snapshot_play, parts_in, holding_part, snapshot_course}
+use Rattle.bf_stages.proofs.LeadLemmas.{gathers_by}
+
+last_kept : {A : Type 0} (was : A) (xs : List A) → fold (λ was part. part) was (xs ++ []) ≡ fold (λ was part. part) was xs
+last_kept was [] = refl
+last_kept was (x ∷ xs) = last_kept x xs
+
+last_new : {A : Type 0} (was x : A) (xs : List A) → fold (λ was part. part) was (xs ++ x ∷ []) ≡ x
+last_new was x [] = refl
+last_new was x (y ∷ xs) = last_new y x xs
+
+module _ {K I : Type 0} (shift : ℕ) (epoch : Epoch) (leaves : Trio K I) (same : leaves.now ≡ leaves.new) (owner home_of : K → ℕ) (up : IsStrictlyIncreasing epoch.members) where
+  abbrev members : List ℕ
+  members = epoch.members
+
+  abbrev part : ℕ → List I
+  part rank = part_of leaves.now owner rank
+
+  abbrev told : ℕ → ℕ → Option (List I)
+  told from to = given_part (gives members shift from to) (part from)
+
+  abbrev hear : (rank : ℕ) → List I → ℕ → List I
+  hear rank was peer = cond (gives members shift peer rank) (part peer) was
+
+  last_heard : (rank : ℕ) (was : List I) (ps : List ℕ) → fold (λ was part. part) was (gathered parts_in told rank ps) ≡ fold (hear rank) was ps
+  last_heard rank was [] = refl
+  last_heard rank was (p ∷ ps) = at (λ next. last_heard rank next ps) (gives members shift p rank)
+    where
+      at : ((next : List I) → fold (λ was part. part) next (gathered parts_in told rank ps) ≡ fold (hear rank) next ps)
+          → (b : Bool) → fold (λ was part. part) was (parts_in p (given_part b (part p)) ++ gathered parts_in told rank ps) ≡ fold (hear rank) (cond b (part p) was) ps
+      at later true = later (part p)
+      at later false = later was
+
+  one : (rank : ℕ) → is_member members rank ≡ true → HearsOne (λ (x : List I). Unit {0}) (hear rank) (predecessor_of members rank shift) (λ x. part (predecessor_of members rank shift))
+  one rank is_in = record {
+    keeps = λ x is. tt;
+    again = λ x. refl;
+    others = λ x peer is other. ap (λ b. cond b (part peer) x) (gives_is members shift peer rank up is_in ∙ other);
+    its = λ x peer is same. ap (λ b. cond b (part peer) x) (gives_is members shift peer rank up is_in ∙ same) ∙ ap part (eqb-true peer (predecessor_of members rank shift) same);
+  }
+
+  all_heard : (rank : ℕ) → is_member members rank ≡ true
+      → fold (hear rank) [] (filter (are_paired members shift rank) members) ≡ cond (predecessor_of members rank shift == rank) [] (part (predecessor_of members rank shift))
+  all_heard rank is_in = at (predecessor_of members rank shift == rank) refl
+    where
+      at : (b : Bool) → (predecessor_of members rank shift == rank) ≡ b → fold (hear rank) [] (filter (are_paired members shift rank) members) ≡ cond b [] (part (predecessor_of members rank shift))
+      at true lone = nothing_heard (λ (x : List I). Unit {0}) (hear rank) (predecessor_of members rank shift) (λ x. part (predecessor_of members rank shift)) (one rank is_in) []
+          (filter (are_paired members shift rank) members) tt
+          (ap (is_member (filter (are_paired members shift rank) members)) (eqb-true (predecessor_of members rank shift) rank lone)
+          ∙ member_filter (are_paired members shift rank) members rank ∙ rw (is_in, paired_apart members shift rank) refl)
+      at false other =
+          let source : is_member members (predecessor_of members rank shift) ≡ true = predecessor_member members rank shift up is_in in
+          let giver : gives members shift (predecessor_of members rank shift) rank ≡ true =
+          gives_is members shift (predecessor_of members rank shift) rank up is_in ∙ eq-eqb (predecessor_of members rank shift) (predecessor_of members rank shift) refl in
+          let seen : are_paired members shift rank (predecessor_of members rank shift) ≡ true =
+          paired_holders members shift (predecessor_of members rank shift) rank giver (eqb-false (predecessor_of members rank shift) rank other) in
+          one_heard (λ (x : List I). Unit {0}) (hear rank) (predecessor_of members rank shift) (λ x. part (predecessor_of members rank shift)) (one rank is_in) []
+          (filter (are_paired members shift rank) members) tt
+          (member_filter (are_paired members shift rank) members (predecessor_of members rank shift) ∙ rw (source, seen) refl)
+
+  spare_from : (source : ℕ) → Leaves K I → (other : List I) → (rank : ℕ) → View I
+  spare_from source new other rank = record (view_at shift epoch false leaves owner home_of rank) {
+    spare = record { time = epoch.target; homes = members; source = source; own = part_of new owner rank; other = other };
+  }
+
+  pub snapshot_gathers : Gathers (snapshot_play shift epoch) parts_in (holding_part shift epoch leaves owner home_of) epoch.members (view_at shift epoch false leaves owner home_of)
+      (view_at shift epoch true leaves owner home_of)
+  unfolding spare_from
+  snapshot_gathers = record {
+    none = λ rank is_in. refl;
+    hear = λ rank peer heard. at rank peer heard (gives members shift peer rank);
+    finish = λ rank is_in.
+        ap (λ (other : List I). spare_from (source_of members shift rank) leaves.now other rank) (last_heard rank [] (filter (are_paired members shift rank) members) ∙ all_heard rank is_in)
+        ∙ ap (λ source. spare_from source leaves.now (cond (predecessor_of members rank shift == rank) [] (part_of leaves.now owner (predecessor_of members rank shift))) rank)
+        (source_is members shift rank is_in)
+        ∙ ap (λ (new : Leaves K I). spare_from (predecessor_of members rank shift) new (cond (predecessor_of members rank shift == rank) [] (part_of new owner (predecessor_of members rank shift))) rank) same;
+  }
+    where
+      at : (rank peer : ℕ) (heard : List (List I)) (b : Bool) → heard_part (holding_part shift epoch leaves owner home_of rank heard) (given_part b (part peer))
+          ≡ holding_part shift epoch leaves owner home_of rank (heard ++ parts_in peer (given_part b (part peer)))
+      at rank peer heard true = ap (λ (x : List I). record (holding_part shift epoch leaves owner home_of rank heard) { spare = record (holding_part shift epoch leaves owner home_of rank heard).spare { other = x } })
+          (sym (last_new [] (part peer) heard))
+      at rank peer heard false = ap (λ (x : List I). record (holding_part shift epoch leaves owner home_of rank heard) { spare = record (holding_part shift epoch leaves owner home_of rank heard).spare { other = x } })
+          (sym (last_kept [] heard))
+
+  pub snapshot_mutual : AreMutual epoch.members (are_paired epoch.members shift) (λ rank. filter (are_paired epoch.members shift rank) epoch.members)
+  snapshot_mutual = record {
+    are = λ rank is_in. refl;
+    apart = paired_apart members shift;
+    both = λ rank other is_in other_in sees. paired_both members shift other rank ∙ sees;
+  }
+
+  pub snapshot_by : LeadsBy (as_delivery (snapshot_play shift epoch)) epoch.members (snapshot_course shift epoch leaves owner home_of) (view_at shift epoch false leaves owner home_of)
+      (view_at shift epoch true leaves owner home_of)
+  snapshot_by = gathers_by (snapshot_play shift epoch) parts_in (holding_part shift epoch leaves owner home_of) epoch.members (view_at shift epoch false leaves owner home_of)
+      (view_at shift epoch true leaves owner home_of) (are_paired epoch.members shift) up snapshot_mutual snapshot_gathers
+
+-- copies weigh nothing
+pub snapshot_weighs : {I : Type 0} (shift : ℕ) (epoch : Epoch) (test : I → Bool) → Weighs (λ (view : View I). count_by test view.items) (λ msg. 0) (as_delivery (snapshot_play shift epoch))
+snapshot_weighs {I = I} shift epoch test = record {
+  out = λ view to. no_more (count_by test view.items);
+  hear = λ view peer msg. at view msg;
+  finish = λ view. refl;
+}
+  where
+    no_more : (n : ℕ) → n + 0 ≡ n
+    no_more n = omega arith
+
+    at : (view : View I) (msg : Option (List I)) → count_by test (heard_part view msg).items ≡ count_by test view.items + 0
+    at view None = sym (no_more (count_by test view.items))
+    at view (Some items) = sym (no_more (count_by test view.items))

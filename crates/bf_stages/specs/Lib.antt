@@ -1,0 +1,6 @@
+pub mod Scenes
+pub mod Supplies
+pub mod Leading
+pub mod Stages
+pub mod Snapshots
+pub mod Moves

@@ -1,0 +1,38 @@
+-- The kind of round in which each rank sends its part to its buddy and fills its spare side.
+use Rattle.std.specs.Prelude.{ℕ, Bool, false, List, [], ◌∷◌, filter, if◌then◌else◌, Option, Some, None}
+use Rattle.std.specs.List.{fold}
+use Rattle.bf_program.specs.declared.epoch.Epoch.{Epoch}
+use Rattle.bf_parts.specs.Sides.{bare, gives}
+use Rattle.bf_rounds.specs.Courses.{Course}
+use Rattle.bf_rounds.specs.Gathering.{Play, gathering}
+use Rattle.bf_parts.specs.Views.{View}
+use Rattle.bf_parts.specs.Spreads.{Trio, view_at}
+use Rattle.bf_parts.specs.SnapshotRounds.{are_paired, filled_view}
+
+abbrev pub heard_part : {I : Type 0} → View I → Option (List I) → View I
+heard_part view None = view
+heard_part view (Some items) = record view { spare = record view.spare { other = items } }
+
+abbrev pub given_part : {I : Type 0} → Bool → List I → Option (List I)
+given_part b items = if b then Some items else None
+
+abbrev pub snapshot_play : {I : Type 0} → (shift : ℕ) → Epoch → Play (View I) (Option (List I))
+snapshot_play shift epoch = record {
+  peers = λ members view. filter (are_paired members shift view.rank) members;
+  tell = λ view to. given_part (gives epoch.members shift view.rank to) view.items;
+  hear = λ view peer msg. heard_part view msg;
+  finish = filled_view shift epoch;
+}
+
+abbrev pub parts_in : {I : Type 0} → ℕ → Option (List I) → List (List I)
+parts_in peer None = []
+parts_in peer (Some items) = items ∷ []
+
+-- a rank's view that has heard some parts: of these it has the last
+abbrev pub holding_part : {K I : Type 0} → (shift : ℕ) → Epoch → Trio K I → (owner home_of : K → ℕ) → (rank : ℕ) → List (List I) → View I
+holding_part shift epoch leaves owner home_of rank parts =
+    record (view_at shift epoch false leaves owner home_of rank) { spare = record bare { other = fold (λ was part. part) [] parts } }
+
+abbrev pub snapshot_course : {K I : Type 0} → (shift : ℕ) → Epoch → Trio K I → (owner home_of : K → ℕ) → Course (View I) (Option (List I))
+snapshot_course shift epoch leaves owner home_of =
+    gathering (snapshot_play shift epoch) parts_in (holding_part shift epoch leaves owner home_of) epoch.members (view_at shift epoch false leaves owner home_of)

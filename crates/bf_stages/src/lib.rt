@@ -1,0 +1,2 @@
+//! Programs whose rounds are stages and whose locals are told by who owns what.
+#![tactic(auto)]
