@@ -1,6 +1,6 @@
 -- The snapshot round fills the spare sides.
-use Rattle.std.proofs.Common.{◌≡◌, ℕ, Bool, true, false, cond, List, [], ◌∷◌, ◌++◌, ◌+◌, arith, refl, ap, sym, ◌∙◌}
-use Rattle.std.specs.Prelude.{◌==◌, filter, Option, Some, None}
+use Rattle.std.proofs.Common.{◌≡◌, ◌≢◌, ℕ, Bool, true, false, cond, List, [], ◌∷◌, ◌++◌, ◌+◌, arith, refl, ap, sym, ◌∙◌}
+use Rattle.std.specs.Prelude.{◌==◌, not, filter, Option, Some, None}
 use Rattle.std.specs.List.{fold, count_by}
 use Rattle.std.specs.List.Sorted.{IsStrictlyIncreasing}
 use Rattle.std.proofs.lemmas.Bool.{eqb-true, eqb-false, eq-eqb}
@@ -15,10 +15,10 @@ use Rattle.bf_rounds.specs.Gathering.{gathered, AreMutual, Gathers}
 use Rattle.bf_parts.specs.Leaves.{Leaves, part_of}
 use Rattle.bf_parts.specs.Views.{View}
 use Rattle.bf_parts.specs.Spreads.{Trio, view_at}
-use Rattle.bf_parts.specs.SnapshotRounds.{are_paired}
+use Rattle.bf_parts.specs.Bools.{eqb_swap}
 use Rattle.bf_parts.specs.SnapshotLaws.{paired_apart, paired_both, paired_holders}
 use Rattle.bf_stages.specs.Leading.{LeadsBy, as_delivery, Weighs}
-use Rattle.bf_stages.specs.Snapshots.{heard_part, given_part, snapshot_play, parts_in, holding_part, snapshot_course}
+use Rattle.bf_stages.specs.Snapshots.{IsSight, sees_paired, sees_others, heard_part, given_part, snapshot_play, parts_in, holding_part, snapshot_course}
 use Rattle.bf_stages.proofs.LeadLemmas.{gathers_by}
 
 last_kept : {A : Type 0} (was : A) (xs : List A) → fold (λ was part. part) was (xs ++ []) ≡ fold (λ was part. part) was xs
@@ -29,7 +29,7 @@ last_new : {A : Type 0} (was x : A) (xs : List A) → fold (λ was part. part) w
 last_new was x [] = refl
 last_new was x (y ∷ xs) = last_new y x xs
 
-module _ {K I : Type 0} (shift : ℕ) (epoch : Epoch) (leaves : Trio K I) (same : leaves.now ≡ leaves.new) (owner home_of : K → ℕ) (up : IsStrictlyIncreasing epoch.members) where
+module _ {K I : Type 0} (sees : (members : List ℕ) → (rank other : ℕ) → Bool) (shift : ℕ) (epoch : Epoch) (sight : IsSight shift sees epoch.members) (leaves : Trio K I) (same : leaves.now ≡ leaves.new) (owner home_of : K → ℕ) (up : IsStrictlyIncreasing epoch.members) where
   abbrev members : List ℕ
   members = epoch.members
 
@@ -60,37 +60,37 @@ module _ {K I : Type 0} (shift : ℕ) (epoch : Epoch) (leaves : Trio K I) (same 
   }
 
   all_heard : (rank : ℕ) → is_member members rank ≡ true
-      → fold (hear rank) [] (filter (are_paired members shift rank) members) ≡ cond (predecessor_of members rank shift == rank) [] (part (predecessor_of members rank shift))
+      → fold (hear rank) [] (filter (sees members rank) members) ≡ cond (predecessor_of members rank shift == rank) [] (part (predecessor_of members rank shift))
   all_heard rank is_in = at (predecessor_of members rank shift == rank) refl
     where
-      at : (b : Bool) → (predecessor_of members rank shift == rank) ≡ b → fold (hear rank) [] (filter (are_paired members shift rank) members) ≡ cond b [] (part (predecessor_of members rank shift))
+      at : (b : Bool) → (predecessor_of members rank shift == rank) ≡ b → fold (hear rank) [] (filter (sees members rank) members) ≡ cond b [] (part (predecessor_of members rank shift))
       at true lone = nothing_heard (λ (x : List I). Unit {0}) (hear rank) (predecessor_of members rank shift) (λ x. part (predecessor_of members rank shift)) (one rank is_in) []
-          (filter (are_paired members shift rank) members) tt
-          (ap (is_member (filter (are_paired members shift rank) members)) (eqb-true (predecessor_of members rank shift) rank lone)
-          ∙ member_filter (are_paired members shift rank) members rank ∙ rw (is_in, paired_apart members shift rank) refl)
+          (filter (sees members rank) members) tt
+          (ap (is_member (filter (sees members rank) members)) (eqb-true (predecessor_of members rank shift) rank lone)
+          ∙ member_filter (sees members rank) members rank ∙ rw (is_in, sight.apart rank) refl)
       at false other =
           let source : is_member members (predecessor_of members rank shift) ≡ true = predecessor_member members rank shift up is_in in
           let giver : gives members shift (predecessor_of members rank shift) rank ≡ true =
           gives_is members shift (predecessor_of members rank shift) rank up is_in ∙ eq-eqb (predecessor_of members rank shift) (predecessor_of members rank shift) refl in
-          let seen : are_paired members shift rank (predecessor_of members rank shift) ≡ true =
-          paired_holders members shift (predecessor_of members rank shift) rank giver (eqb-false (predecessor_of members rank shift) rank other) in
+          let seen : sees members rank (predecessor_of members rank shift) ≡ true =
+          sight.holders (predecessor_of members rank shift) rank giver (eqb-false (predecessor_of members rank shift) rank other) in
           one_heard (λ (x : List I). Unit {0}) (hear rank) (predecessor_of members rank shift) (λ x. part (predecessor_of members rank shift)) (one rank is_in) []
-          (filter (are_paired members shift rank) members) tt
-          (member_filter (are_paired members shift rank) members (predecessor_of members rank shift) ∙ rw (source, seen) refl)
+          (filter (sees members rank) members) tt
+          (member_filter (sees members rank) members (predecessor_of members rank shift) ∙ rw (source, seen) refl)
 
   spare_from : (source : ℕ) → Leaves K I → (other : List I) → (rank : ℕ) → View I
   spare_from source new other rank = record (view_at shift epoch false leaves owner home_of rank) {
     spare = record { time = epoch.target; homes = members; source = source; own = part_of new owner rank; other = other };
   }
 
-  pub snapshot_gathers : Gathers (snapshot_play shift epoch) parts_in (holding_part shift epoch leaves owner home_of) epoch.members (view_at shift epoch false leaves owner home_of)
+  pub snapshot_gathers : Gathers (snapshot_play sees shift epoch) parts_in (holding_part shift epoch leaves owner home_of) epoch.members (view_at shift epoch false leaves owner home_of)
       (view_at shift epoch true leaves owner home_of)
   unfolding spare_from
   snapshot_gathers = record {
     none = λ rank is_in. refl;
     hear = λ rank peer heard. at rank peer heard (gives members shift peer rank);
     finish = λ rank is_in.
-        ap (λ (other : List I). spare_from (source_of members shift rank) leaves.now other rank) (last_heard rank [] (filter (are_paired members shift rank) members) ∙ all_heard rank is_in)
+        ap (λ (other : List I). spare_from (source_of members shift rank) leaves.now other rank) (last_heard rank [] (filter (sees members rank) members) ∙ all_heard rank is_in)
         ∙ ap (λ source. spare_from source leaves.now (cond (predecessor_of members rank shift == rank) [] (part_of leaves.now owner (predecessor_of members rank shift))) rank)
         (source_is members shift rank is_in)
         ∙ ap (λ (new : Leaves K I). spare_from (predecessor_of members rank shift) new (cond (predecessor_of members rank shift == rank) [] (part_of new owner (predecessor_of members rank shift))) rank) same;
@@ -103,21 +103,39 @@ module _ {K I : Type 0} (shift : ℕ) (epoch : Epoch) (leaves : Trio K I) (same 
       at rank peer heard false = ap (λ (x : List I). record (holding_part shift epoch leaves owner home_of rank heard) { spare = record (holding_part shift epoch leaves owner home_of rank heard).spare { other = x } })
           (sym (last_kept [] heard))
 
-  pub snapshot_mutual : AreMutual epoch.members (are_paired epoch.members shift) (λ rank. filter (are_paired epoch.members shift rank) epoch.members)
+  pub snapshot_mutual : AreMutual epoch.members (sees epoch.members) (λ rank. filter (sees epoch.members rank) epoch.members)
   snapshot_mutual = record {
     are = λ rank is_in. refl;
-    apart = paired_apart members shift;
-    both = λ rank other is_in other_in sees. paired_both members shift other rank ∙ sees;
+    apart = sight.apart;
+    both = λ rank other is_in other_in seen. sight.both rank other seen;
   }
 
-  pub snapshot_by : LeadsBy (as_delivery (snapshot_play shift epoch)) epoch.members (snapshot_course shift epoch leaves owner home_of) (view_at shift epoch false leaves owner home_of)
+  pub snapshot_by : LeadsBy (as_delivery (snapshot_play sees shift epoch)) epoch.members (snapshot_course sees shift epoch leaves owner home_of) (view_at shift epoch false leaves owner home_of)
       (view_at shift epoch true leaves owner home_of)
-  snapshot_by = gathers_by (snapshot_play shift epoch) parts_in (holding_part shift epoch leaves owner home_of) epoch.members (view_at shift epoch false leaves owner home_of)
-      (view_at shift epoch true leaves owner home_of) (are_paired epoch.members shift) up snapshot_mutual snapshot_gathers
+  snapshot_by = gathers_by (snapshot_play sees shift epoch) parts_in (holding_part shift epoch leaves owner home_of) epoch.members (view_at shift epoch false leaves owner home_of)
+      (view_at shift epoch true leaves owner home_of) (sees epoch.members) up snapshot_mutual snapshot_gathers
+
+pub paired_sight : (shift : ℕ) (ranks : List ℕ) → IsSight shift (sees_paired shift) ranks
+paired_sight shift ranks = record {
+  apart = paired_apart ranks shift;
+  both = λ rank other seen. paired_both ranks shift other rank ∙ seen;
+  holders = paired_holders ranks shift;
+}
+
+pub others_sight : (shift : ℕ) (ranks : List ℕ) → IsSight shift sees_others ranks
+others_sight shift ranks = record {
+  apart = λ rank. ap not (eq-eqb rank rank refl);
+  both = λ rank other seen. ap not (eqb_swap rank other) ∙ seen;
+  holders = λ from to giver apart. at from to apart (from == to) refl;
+}
+  where
+    at : (from to : ℕ) → from ≢ to → (b : Bool) → (from == to) ≡ b → not b ≡ true
+    at from to apart true same = absurd (apart (eqb-true from to same))
+    at from to apart false other = refl
 
 -- copies weigh nothing
-pub snapshot_weighs : {I : Type 0} (shift : ℕ) (epoch : Epoch) (test : I → Bool) → Weighs (λ (view : View I). count_by test view.items) (λ msg. 0) (as_delivery (snapshot_play shift epoch))
-snapshot_weighs {I = I} shift epoch test = record {
+pub snapshot_weighs : {I : Type 0} (sees : (members : List ℕ) → (rank other : ℕ) → Bool) (shift : ℕ) (epoch : Epoch) (test : I → Bool) → Weighs (λ (view : View I). count_by test view.items) (λ msg. 0) (as_delivery (snapshot_play sees shift epoch))
+snapshot_weighs {I = I} sees shift epoch test = record {
   out = λ view to. no_more (count_by test view.items);
   hear = λ view peer msg. at view msg;
   finish = λ view. refl;

@@ -243,8 +243,8 @@ module _ {S K I L N M T G B U : Type 0} (m : Meanings S L M T (Side I)) (st : St
   }
 
   -- the snapshot
-  module _ (kind : Kind I) (box : I → B) (cargo : L → List B) (seen : (view : View I) (work : N) → st.look (st.put view work) ≡ view) (pieces : HasPieces m st kind setup regions box cargo) (runs : st.Runs setup epoch) (lens : Lens L (View I) M (Option (List I)))
-      (is : IsSnapshotStage m st setup regions epoch stage next lens) where
+  module _ (kind : Kind I) (box : I → B) (cargo : L → List B) (seen : (view : View I) (work : N) → st.look (st.put view work) ≡ view) (pieces : HasPieces m st kind setup regions box cargo) (runs : st.Runs setup epoch) (sees : (members : List ℕ) → (rank other : ℕ) → Bool) (lens : Lens L (View I) M (Option (List I)))
+      (is : IsSnapshotStage m st setup regions sees epoch stage next lens) where
     abbrev trio_now : Trio K I
     trio_now = record { now = st.leaves setup epoch stage; agreed = st.at setup epoch.time; new = st.at setup epoch.target }
 
@@ -267,12 +267,12 @@ module _ {S K I L N M T G B U : Type 0} (m : Meanings S L M T (Side I)) (st : St
         sides_seen view world rank = seen view (st.work setup epoch stage world.owner rank)
 
     pub snapshot_follows : Follows m st setup regions epoch stage next
-    snapshot_follows = part_follows (as_delivery (snapshot_play (m.shift setup) epoch)) held held lens.wrap (λ world. snapshot_course (m.shift setup) epoch trio_now world.owner world.home)
+    snapshot_follows = part_follows (as_delivery (snapshot_play sees (m.shift setup) epoch)) held held lens.wrap (λ world. snapshot_course sees (m.shift setup) epoch trio_now world.owner world.home)
         (λ world rank. view_at (m.shift setup) epoch false trio_now world.owner world.home rank) (λ world rank. view_at (m.shift setup) epoch true trio_now world.owner world.home rank)
         (λ unit view. count_by (λ item. regions.holds (box item) unit) view.items) (λ unit word. 0) (λ unit world rank. 0)
         (record {
-          part = λ world. subst (λ (play : Delivery L M). IsPartOf (as_delivery (snapshot_play (m.shift setup) epoch)) play (held world) (held world) lens.wrap) (sym is.play_is)
-              (lens_part lens (as_delivery (snapshot_play (m.shift setup) epoch)) (held world)
+          part = λ world. subst (λ (play : Delivery L M). IsPartOf (as_delivery (snapshot_play sees (m.shift setup) epoch)) play (held world) (held world) lens.wrap) (sym is.play_is)
+              (lens_part lens (as_delivery (snapshot_play sees (m.shift setup) epoch)) (held world)
               (record { taken = λ rank n. is.taken n (st.work setup epoch stage world.owner rank); given = λ rank n now. is.given n now (st.work setup epoch stage world.owner rank); read = is.read }));
           course_is = is.course_is;
           before_is = λ world rank placed member. ap (λ (b : Bool). held world rank (view_at (m.shift setup) epoch b trio_now world.owner world.home rank)) (sym is.unmade);
@@ -283,12 +283,12 @@ module _ {S K I L N M T G B U : Type 0} (m : Meanings S L M T (Side I)) (st : St
               ∙ ap (λ (work : N). st.put (view_at (m.shift setup) epoch (st.made next) (record { now = st.leaves setup epoch next; agreed = st.at setup epoch.time; new = st.at setup epoch.target }) world.owner world.home rank) work)
               (sym (is.work world.owner rank))
               ∙ ap (λ (owner : K → ℕ). local_of_stage m st setup epoch next (record { home = world.home; owner = owner }) rank) (sym (is.stays world.owner));
-          leads = λ world placed. snapshot_by (m.shift setup) epoch trio_now is.leaves world.owner world.home placed.held.members_rise;
+          leads = λ world placed. snapshot_by sees (m.shift setup) epoch is.sight trio_now is.leaves world.owner world.home placed.held.members_rise;
           owned = λ world placed.
               subst (λ (owner : K → ℕ). AreAmong epoch.members (st.leaves setup epoch next) owner) (sym (is.stays world.owner))
               (subst (λ (ls : Leaves K I). AreAmong epoch.members ls world.owner) (is.leaves ∙ sym is.leaves_after) placed.owned);
           also = λ world placed. subst (λ (owner : K → ℕ). st.Also setup epoch next owner) (sym (is.stays world.owner)) (is.also world placed);
-          weighs = λ unit. snapshot_weighs (m.shift setup) epoch (λ item. regions.holds (box item) unit);
+          weighs = λ unit. snapshot_weighs sees (m.shift setup) epoch (λ item. regions.holds (box item) unit);
           of_local = λ unit world rank view. holds unit world rank view;
           of_after = λ unit world rank view. holds unit world rank view;
           of_word = λ unit word. is.light word unit;

@@ -1,5 +1,5 @@
 -- The kind of round in which each rank sends its part to its buddy and fills its spare side.
-use Rattle.std.specs.Prelude.{ℕ, Bool, false, List, [], ◌∷◌, filter, if◌then◌else◌, Option, Some, None}
+use Rattle.std.specs.Prelude.{◌≡◌, ◌≢◌, ℕ, ◌==◌, Bool, true, false, not, List, [], ◌∷◌, filter, if◌then◌else◌, Option, Some, None}
 use Rattle.std.specs.List.{fold}
 use Rattle.bf_program.specs.declared.epoch.Epoch.{Epoch}
 use Rattle.bf_parts.specs.Sides.{bare, gives}
@@ -9,6 +9,20 @@ use Rattle.bf_parts.specs.Views.{View}
 use Rattle.bf_parts.specs.Spreads.{Trio, view_at}
 use Rattle.bf_parts.specs.SnapshotRounds.{are_paired, filled_view}
 
+-- who talks to whom: nobody to itself, of two both or neither, and each to whom it gives its part
+pub record IsSight (shift : ℕ) (sees : (members : List ℕ) → (rank other : ℕ) → Bool) (members : List ℕ) : Type 0 where
+  pub apart : (rank : ℕ) → sees members rank rank ≡ false
+  pub both : (rank other : ℕ) → sees members rank other ≡ true → sees members other rank ≡ true
+  pub holders : (from to : ℕ) → gives members shift from to ≡ true → from ≢ to → sees members to from ≡ true
+
+-- a rank talks to its buddy and to the one whose buddy it is
+abbrev pub sees_paired : (shift : ℕ) → (members : List ℕ) → (rank other : ℕ) → Bool
+sees_paired shift members rank other = are_paired members shift rank other
+
+-- a rank talks to all others
+abbrev pub sees_others : (members : List ℕ) → (rank other : ℕ) → Bool
+sees_others members rank other = not (other == rank)
+
 abbrev pub heard_part : {I : Type 0} → View I → Option (List I) → View I
 heard_part view None = view
 heard_part view (Some items) = record view { spare = record view.spare { other = items } }
@@ -16,9 +30,9 @@ heard_part view (Some items) = record view { spare = record view.spare { other =
 abbrev pub given_part : {I : Type 0} → Bool → List I → Option (List I)
 given_part b items = if b then Some items else None
 
-abbrev pub snapshot_play : {I : Type 0} → (shift : ℕ) → Epoch → Play (View I) (Option (List I))
-snapshot_play shift epoch = record {
-  peers = λ members view. filter (are_paired members shift view.rank) members;
+abbrev pub snapshot_play : {I : Type 0} → (sees : (members : List ℕ) → (rank other : ℕ) → Bool) → (shift : ℕ) → Epoch → Play (View I) (Option (List I))
+snapshot_play sees shift epoch = record {
+  peers = λ members view. filter (sees members view.rank) members;
   tell = λ view to. given_part (gives epoch.members shift view.rank to) view.items;
   hear = λ view peer msg. heard_part view msg;
   finish = filled_view shift epoch;
@@ -33,6 +47,6 @@ abbrev pub holding_part : {K I : Type 0} → (shift : ℕ) → Epoch → Trio K 
 holding_part shift epoch leaves owner home_of rank parts =
     record (view_at shift epoch false leaves owner home_of rank) { spare = record bare { other = fold (λ was part. part) [] parts } }
 
-abbrev pub snapshot_course : {K I : Type 0} → (shift : ℕ) → Epoch → Trio K I → (owner home_of : K → ℕ) → Course (View I) (Option (List I))
-snapshot_course shift epoch leaves owner home_of =
-    gathering (snapshot_play shift epoch) parts_in (holding_part shift epoch leaves owner home_of) epoch.members (view_at shift epoch false leaves owner home_of)
+abbrev pub snapshot_course : {K I : Type 0} → (sees : (members : List ℕ) → (rank other : ℕ) → Bool) → (shift : ℕ) → Epoch → Trio K I → (owner home_of : K → ℕ) → Course (View I) (Option (List I))
+snapshot_course sees shift epoch leaves owner home_of =
+    gathering (snapshot_play sees shift epoch) parts_in (holding_part shift epoch leaves owner home_of) epoch.members (view_at shift epoch false leaves owner home_of)

@@ -17,7 +17,7 @@ use Rattle.bf_parts.specs.Spreads.{view_at, kept_view, restored_view}
 use Rattle.bf_parts.specs.StockLaws.{IsHeld}
 use Rattle.bf_stages.specs.Scenes.{World, Scene, Conserves}
 use Rattle.bf_stages.specs.Leading.{LeadsBy, IsPartOf, as_delivery, alone, lifted, Lens, through, Weighs}
-use Rattle.bf_stages.specs.Snapshots.{snapshot_play, snapshot_course}
+use Rattle.bf_stages.specs.Snapshots.{IsSight, snapshot_play, snapshot_course}
 
 -- over setups, keys, items, locals, what a local has beside its view, messages, and stages
 pub record Staging (S K I L N M G : Type 0) : Type 1 where
@@ -138,13 +138,14 @@ module _ {S K I L N M T G : Type 0} (m : Meanings S L M T (Side I)) (st : Stagin
           → times regions (regions.of_local (local_of_stage epoch next (after_stage epoch stage world) rank)) unit ≡ times regions (regions.of_local (local_of_stage epoch stage world rank)) unit
 
     -- a stage in which the snapshot is made
-    pub record IsSnapshotStage (epoch : Epoch) (stage next : G) (lens : Lens L (View I) M (Option (List I))) : Type 0 where
-      pub play_is : st.play setup epoch stage ≡ through lens (as_delivery (snapshot_play (m.shift setup) epoch))
+    pub record IsSnapshotStage (sees : (members : List ℕ) → (rank other : ℕ) → Bool) (epoch : Epoch) (stage next : G) (lens : Lens L (View I) M (Option (List I))) : Type 0 where
+      pub sight : IsSight (m.shift setup) sees epoch.members
+      pub play_is : st.play setup epoch stage ≡ through lens (as_delivery (snapshot_play sees (m.shift setup) epoch))
       pub taken : (view : View I) (work : N) → lens.take (st.put view work) ≡ view
       pub given : (view now : View I) (work : N) → lens.give (st.put view work) now ≡ st.put now work
       pub read : (word : Option (List I)) → lens.unwrap (lens.wrap word) ≡ word
       pub course_is : (world : World K) → st.course setup epoch stage world ≡ lifted (λ rank view. st.put view (st.work setup epoch stage world.owner rank)) lens.wrap
-          (snapshot_course (m.shift setup) epoch (record { now = st.leaves setup epoch stage; agreed = st.at setup epoch.time; new = st.at setup epoch.target }) world.owner world.home)
+          (snapshot_course sees (m.shift setup) epoch (record { now = st.leaves setup epoch stage; agreed = st.at setup epoch.time; new = st.at setup epoch.target }) world.owner world.home)
       pub leaves : st.leaves setup epoch stage ≡ st.at setup epoch.target
       pub leaves_after : st.leaves setup epoch next ≡ st.at setup epoch.target
       pub unmade : st.made stage ≡ false
