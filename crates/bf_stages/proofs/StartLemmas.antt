@@ -12,13 +12,13 @@ use Rattle.bf_buddy.proofs.LossLemmas.{none_lost}
 use Rattle.bf_program.specs.declared.epoch.Epoch.{Epoch}
 use Rattle.bf_program.specs.Epochs.{first_epoch, epoch_after_commit}
 use Rattle.bf_program.specs.Meanings.{Meanings, Regions}
-use Rattle.bf_program.specs.Restores.{heir_of, restored_epoch}
+use Rattle.bf_program.specs.Restores.{heir_of, restored_epoch, restored_locals}
 use Rattle.bf_program.proofs.RestoreLemmas.{heir_lives}
 use Rattle.bf_parts.specs.declared.side.Side.{Side}
 use Rattle.bf_parts.specs.Sides.{bare}
 use Rattle.bf_parts.specs.Seats.{member_filter, member_first, member_later, range_rises}
 use Rattle.bf_rounds.specs.Canonical.{KeepsTelling, KeepsStarts}
-use Rattle.bf_rounds.proofs.MemberLemmas.{map_members}
+use Rattle.bf_rounds.proofs.MemberLemmas.{map_members, map_seats_kept}
 use Rattle.bf_parts.specs.Leaves.{Kind, Leaves, AreAmong, part_of, is_filled, side_at}
 use Rattle.bf_parts.specs.RestoreLaws.{regained_is}
 use Rattle.bf_parts.specs.StockLaws.{IsHeld}
@@ -112,7 +112,7 @@ module _ {S K I L N M T : Type 0} (m : Meanings S L M T (Side I)) (scene : Scene
       abbrev kept_world : World K → World K
       kept_world world = record { home = world.owner; owner = world.owner }
 
-      abbrev regained_world : Epoch → (lives : ℕ → Bool) → World K → World K
+      abbrev pub regained_world : Epoch → (lives : ℕ → Bool) → World K → World K
       regained_world epoch lives world = record { home = world.home; owner = λ key. heir_of epoch.homes (filter lives epoch.members) (m.shift setup) (world.home key) }
 
       lone_held : (filled : ℕ → Bool) (members : List ℕ) → IsStrictlyIncreasing members → IsHeld filled (m.shift setup) members members
@@ -160,7 +160,7 @@ module _ {S K I L N M T : Type 0} (m : Meanings S L M T (Side I)) (scene : Scene
           ∙ ap (λ (ls : Leaves K I). kept_view (view_at (m.shift setup) epoch true (record { now = ls; agreed = scene.at setup epoch.time; new = scene.at setup epoch.target }) world.owner world.home rank))
           (epochs.ends epoch runs)
 
-      regained_placed : (epoch : Epoch) (round : ℕ) (world : World K) (lives : ℕ → Bool) → IsPlaced m scene setup epoch round world
+      pub regained_placed : (epoch : Epoch) (round : ℕ) (world : World K) (lives : ℕ → Bool) → IsPlaced m scene setup epoch round world
           → first_lost_of epoch.homes (m.stored (map (local_told m scene setup epoch round world) epoch.members)) (filter lives epoch.members) (m.shift setup) ≡ None
           → IsPlaced m scene setup (restored_epoch lives epoch) 0 (regained_world epoch lives world)
       regained_placed epoch round world lives placed none =
@@ -196,6 +196,17 @@ module _ {S K I L N M T : Type 0} (m : Meanings S L M T (Side I)) (scene : Scene
           (regained_is kind (scene.at setup epoch.time) (epochs.are epoch placed.runs) epoch.homes live (m.shift setup) world.home rank placed.held.homes_rise
           (placed.held.among rank (was_member lives epoch.members rank is_in)) is_in placed.housed epoch.time)
           ∙ begun (restored_epoch lives epoch) (regained_world epoch lives world) rank (epochs.restore_runs epoch lives placed.runs)
+
+      -- the locals with which a restore goes on
+      pub restored_told : (epoch : Epoch) (round : ℕ) (world : World K) (lives : ℕ → Bool) → IsPlaced m scene setup epoch round world
+          → restored_locals m setup epoch lives (map (local_told m scene setup epoch round world) epoch.members)
+          ≡ map (local_told m scene setup (restored_epoch lives epoch) 0 (regained_world epoch lives world)) (filter lives epoch.members)
+      unfolding restored_locals
+      restored_told epoch round world lives placed =
+          map_seats_kept (λ (seat : ℕ × L). m.restore setup seat.1 seat.0 (restored_epoch lives epoch)) (local_told m scene setup epoch round world) lives epoch.members
+          ∙ map_members (λ rank. m.restore setup (local_told m scene setup epoch round world rank) rank (restored_epoch lives epoch))
+          (local_told m scene setup (restored_epoch lives epoch) 0 (regained_world epoch lives world)) (filter lives epoch.members)
+          (λ rank is_in. restored_is epoch round world lives rank placed is_in)
 
       pub keeps_starts : KeepsStarts m (telling_of m scene) setup
       keeps_starts = record {
