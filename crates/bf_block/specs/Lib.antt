@@ -2,3 +2,4 @@ pub mod Runs
 pub mod Setup
 pub mod Block
 pub mod BlockFields
+pub mod Kinds

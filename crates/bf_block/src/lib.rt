@@ -7,6 +7,7 @@
 mod block;
 mod kept;
 pub mod laws;
+mod linked;
 mod opening;
 mod point;
 mod setup;
