@@ -1,69 +1,77 @@
 -- A rank that finishes a step's round is ready to step its blocks.
-use Rattle.std.proofs.Common.{◌≡◌, ℕ, zero, suc, ◌+◌, ◌<◌, ◌≤◌, Bool, true, false, cond, List, ◌++◌, flat_map, All, arith, refl, ap, sym, ◌∙◌, subst}
-use Rattle.std.specs.Prelude.{nat_lt}
-use Rattle.std.proofs.lemmas.Bool.Decides.{nat_tests}
+use Rattle.std.proofs.Common.{◌≡◌, ℕ, ◌+◌, ◌<◌, ◌≤◌, List, ◌++◌, ◌⊎◌, inl, inr, flat_map, All, arith, refl, ap, sym, ◌∙◌, subst}
+use Rattle.std.proofs.lemmas.Bool.{cases_lt, cases_order}
 use Rattle.bf_buddy.specs.Members.{without}
 use Rattle.bf_program.specs.declared.epoch.Epoch.{Epoch}
-use Rattle.bf_program.specs.Epochs.{target_in}
-use Rattle.bf_program.specs.Lockstep.{lockstep}
 use Rattle.bf_program.specs.Points.{IsFinishing}
+use Rattle.bf_id.specs.Id.{BlockId}
+use Rattle.bf_case.specs.declared.case.Case.{Case}
 use Rattle.bf_block.specs.declared.setup.Setup.{Setup}
-use Rattle.bf_block.specs.Setup.{case_of}
-use Rattle.bf_parts.specs.Seats.{seat_of}
+use Rattle.bf_block.specs.Setup.{case_of, every_setup_runs}
+use Rattle.bf_block.specs.Kinds.{block_kind}
+use Rattle.bf_parts.specs.Leaves.{AreAmong, part_of}
+use Rattle.bf_rounds.proofs.PointLemmas.{finishing_told}
+use Rattle.bf_stages.specs.Scenes.{telling_of}
+use Rattle.bf_stages.specs.Stages.{scene_of}
+use Rattle.bf_stages.proofs.StageLemmas.{rounds_staged}
+use Rattle.bf_stages.proofs.StartLemmas.{keeps_telling}
 use Rattle.bf_forest.specs.declared.local.ForestLocal.{ForestLocal}
-use Rattle.bf_forest.specs.declared.stage.Stage.TheVariants.{Step, Snapshot}
-use Rattle.bf_forest.specs.Goods.{IsBlockAt, IsGood}
-use Rattle.bf_forest.specs.Hearing.{blocks_at, with_heard, step_heard}
-use Rattle.bf_forest.specs.Meanings.{forest}
-use Rattle.bf_forest.specs.NextLaws.{IsSeat, seats_of, known_to, known_models, known_roots, next_good}
-use Rattle.bf_parts.specs.PlainRounds.{plain_receives}
+use Rattle.bf_forest.specs.declared.stage.Stage.{Stage}
+use Rattle.bf_forest.specs.declared.stage.Stage.TheVariants.{Step, Snapshot, Over}
+use Rattle.bf_forest.specs.BlockLaws.{known_to, known_are, known_roots}
+use Rattle.bf_forest.specs.ForestLaws.{lawful_forest, staged, whole_span, ends_within}
+use Rattle.bf_forest.specs.Goods.{IsGood}
+use Rattle.bf_forest.specs.Meanings.{forest, pieces}
+use Rattle.bf_forest.specs.ModelBlocks.{blocks_at, IsBlockAt}
 use Rattle.bf_forest.specs.Ready.{IsReady}
-use Rattle.bf_forest.specs.StageLaws.{target_near}
-use Rattle.bf_forest.specs.Stages.{span, rounds_of, stage_of, time_at}
+use Rattle.bf_forest.specs.RoundLaws.{has_stages, heard_all}
+use Rattle.bf_forest.specs.StageLaws.{stage_step, stage_snapshot, stage_over}
+use Rattle.bf_forest.specs.Stages.{span, stage_of}
+use Rattle.bf_forest.specs.Staging.{course_in, leaves_in, forest_staging}
 use Rattle.bf_forest.specs.StepLaws.{HasRoots}
 
--- good locals stay good
-rounds_good : (setup : Setup) (epoch : Epoch) (start : List ForestLocal) (round : ℕ) → IsGood setup epoch 0 start → round ≤ rounds_of epoch
-    → IsGood setup epoch round (lockstep forest setup epoch start round)
-rounds_good setup epoch start zero good within = good
-rounds_good setup epoch start (suc round) good within =
-    let before = rounds_good setup epoch start round good (omega arith) in
-    subst (λ n. IsGood setup epoch n (lockstep forest setup epoch start (suc round))) (let e : round + 1 ≡ suc round = omega arith in e)
-    (next_good setup epoch round (lockstep forest setup epoch start round) before (omega arith))
+-- a rank that owns some blocks of a time and has heard those of all others
+pub part_ready : (setup : Setup) (time : ℕ) (owner : BlockId → ℕ) (members : List ℕ) (rank : ℕ) (local : ForestLocal) → AreAmong members (blocks_at (case_of setup) time) owner
+    → time < (case_of setup).steps → local.blocks ≡ part_of (blocks_at (case_of setup) time) owner rank
+    → local.heard ≡ flat_map (part_of (blocks_at (case_of setup) time) owner) (without members rank) → IsReady (case_of setup) time local
+part_ready setup time owner members rank local owned more own heard =
+    let c : Case = case_of setup in
+    let known : known_to c time owner members rank ≡ local.blocks ++ local.heard = rw (own, heard) refl in
+    record {
+      known = subst (All (IsBlockAt c time)) known (known_are c time (every_setup_runs setup) owner members rank);
+      roots = subst (HasRoots c) known (known_roots c time (every_setup_runs setup) owner members rank owned);
+      more = more;
+    }
 
-step_before : (epoch : Epoch) (round : ℕ) → stage_of epoch round ≡ Step → round < span epoch
-unfolding stage_of
-step_before epoch round is = at (nat_lt round (span epoch)) refl is
+-- the time of a step's round
+step_time : (epoch : Epoch) (round time : ℕ) → stage_of epoch round ≡ Step time → (round < span epoch) × (time ≡ epoch.time + round)
+step_time epoch round time is = elim (cases_lt round (span epoch)) [
+  | inl before ↦ (before, let same : Step time ≡ Step (epoch.time + round) = sym is ∙ stage_step epoch round before in cc)
+  | inr after ↦ elim (cases_order round (span epoch)) [
+    | inl last ↦ absurd (let wrong : Step time ≡ Snapshot = sym is ∙ stage_snapshot epoch round last in cc)
+    | inr other ↦ absurd (let wrong : Step time ≡ Over = sym is ∙ stage_over epoch round (past other after) in cc)
+  ]
+]
   where
-    at : (b : Bool) → nat_lt round (span epoch) ≡ b → cond b Step Snapshot ≡ Step → round < span epoch
-    at true test same = grind (arith, nat_tests)
-    at false test same = absurd (cc)
+    past : (round < span epoch) ⊎ (span epoch < round) → span epoch ≤ round → span epoch < round
+    past (inl less) after = absurd (omega (arith, less, after))
+    past (inr more) after = more
 
-goes_on : (steps interval : ℕ) (epoch : Epoch) (round : ℕ) → epoch.time ≤ steps → epoch.target ≡ target_in steps interval epoch → round < span epoch → time_at epoch round < steps
-unfolding time_at span
-goes_on steps interval epoch round begins ends before =
-    let near = target_near steps interval epoch begins ends in
-    omega (arith, near.1.1, before)
-
-pub finishing_ready : (setup : Setup) (epoch : Epoch) (round : ℕ) (local : ForestLocal) → IsFinishing forest IsGood setup epoch round local
-    → stage_of epoch round ≡ Step → (time : ℕ) × IsReady (case_of setup) time local
-finishing_ready setup epoch round local at stage =
-    let c = case_of setup in
-    let locals = at.locals in
-    let reached = at.begins.reached in
-    let good : IsGood setup epoch round locals =
-    subst (IsGood setup epoch round) (sym reached.reached) (rounds_good setup epoch reached.start round reached.good_start (omega (arith, reached.within))) in
-    let seat : IsSeat setup epoch round good.shared.owner good.shared.home_of at.rank at.first =
-    seat_of (IsSeat setup epoch round good.shared.owner good.shared.home_of) epoch.members locals at.rank at.first (seats_of setup epoch round locals good) at.begins.its in
-    let others = flat_map (blocks_at epoch.members locals) (without epoch.members at.first.rank) in
-    let is : local ≡ with_heard at.first (at.first.heard ++ others) =
-    at.received ∙ plain_receives forest setup epoch round (λ l to. refl) locals at.rank at.first
-    ∙ step_heard setup epoch round locals at.rank at.first (without epoch.members at.first.rank) stage in
-    let known : known_to epoch locals at.first ≡ local.blocks ++ local.heard = ap (λ (l : ForestLocal). l.blocks ++ l.heard) (sym is) in (
-      time_at epoch round,
-      record {
-        known = subst (All (IsBlockAt c (time_at epoch round))) known (known_models setup epoch round locals good at.rank at.first seat);
-        roots = subst (HasRoots c) known (known_roots setup epoch round locals good at.rank at.first seat);
-        more = goes_on c.steps c.snapshot epoch round good.begins good.ends (step_before epoch round stage);
-      },
+pub finishing_ready : (setup : Setup) (epoch : Epoch) (round time : ℕ) (local : ForestLocal) → IsFinishing forest IsGood setup epoch round local
+    → stage_of epoch round ≡ Step time → (time : ℕ) × IsReady (case_of setup) time local
+unfolding IsGood stage_of
+finishing_ready setup epoch round time local at stage =
+    let c : Case = case_of setup in
+    let keeps = keeps_telling forest (scene_of forest_staging) block_kind setup pieces (rounds_staged forest forest_staging block_kind setup (staged setup) pieces (has_stages setup)) in
+    let told = finishing_told forest (telling_of forest (scene_of forest_staging)) setup keeps (lawful_forest setup).goods epoch round local at in
+    let its = step_time epoch round time stage in
+    let whole : epoch.time + span epoch ≡ epoch.target = whole_span setup epoch told.fits.runs in
+    let ends : epoch.target ≤ c.steps = ends_within setup epoch told.fits.runs in
+    let is : local ≡ (course_in c epoch (Step time) told.world).heard told.rank ((course_in c epoch (Step time) told.world).peers told.rank) =
+    told.is ∙ ap (λ (s : Stage). (course_in c epoch s told.world).heard told.rank ((course_in c epoch s told.world).peers told.rank)) stage in (
+      time,
+      part_ready setup time told.world.owner epoch.members told.rank local
+          (subst (λ (s : Stage). AreAmong epoch.members (leaves_in c epoch s) told.world.owner) stage told.fits.owned)
+          (omega (arith, its.0, its.1, whole, ends)) (ap (λ (l : ForestLocal). l.blocks) is)
+          (ap (λ (l : ForestLocal). l.heard) is ∙ heard_all setup epoch time told.world told.rank (without epoch.members told.rank)),
     )

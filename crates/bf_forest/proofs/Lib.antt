@@ -2,5 +2,5 @@ pub mod PlaceSteps
 pub mod Stepping
 pub mod Readying
 pub mod OpeningSteps
-pub mod Finishing
 mod StartSteps
+pub mod Finishing

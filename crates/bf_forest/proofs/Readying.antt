@@ -21,7 +21,7 @@ use Rattle.bf_block.proofs.Steps.{model_regridded}
 use Rattle.bf_forest.specs.declared.known.Known.{Known}
 use Rattle.bf_forest.specs.declared.local.ForestLocal.{ForestLocal}
 use Rattle.bf_forest.specs.Gathered.{advanced, gathered, stepped_among}
-use Rattle.bf_forest.specs.Goods.{IsBlockAt}
+use Rattle.bf_forest.specs.ModelBlocks.{IsBlockAt}
 use Rattle.bf_forest.specs.Known.{is_known, known_grid, KnowsModel, CanAdvance}
 use Rattle.bf_forest.specs.Places.{ArePlaces, roots_in}
 use Rattle.bf_forest.specs.Ready.{CanBeKept, IsKeptAt, IsReady, next_block}

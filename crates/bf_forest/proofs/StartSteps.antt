@@ -22,7 +22,7 @@ unfolding has_below is_filled
 none_below c rank = refl
 
 pub found_below : (c : Case) (rank root : ℕ) → root < root_count c.roots → first_rank_of c root ≡ rank → starts c rank ≡ true
-unfolding starts
+unfolding starts is_filled
 found_below c rank root within its = fills (root_count c.roots) (first_rank_of c) rank root within its
 
 not_there : (c : Case) (rank root k : ℕ) → is_filled root (first_rank_of c) rank ≡ false → (first_rank_of c root == rank) ≡ false
@@ -47,7 +47,7 @@ none_more c rank root none other = at (is_filled (root + 1) (first_rank_of c) ra
         not_there c rank root found.0 none other found.1.0 found.1.1
 
 pub none_at_all : (c : Case) (rank root : ℕ) → has_below c rank root ≡ false → root ≡ root_count c.roots → starts c rank ≡ false
-unfolding has_below starts
+unfolding has_below starts is_filled
 none_at_all c rank root none end = ap (λ n. is_filled n (first_rank_of c) rank) (sym end) ∙ none
 
 -- the ranks at which a root begins, and those from one on
@@ -59,16 +59,16 @@ unfolding laid_below
 laid_start c = passed_start (is_filled (root_count c.roots) (first_rank_of c)) (range_with_len 0 c.ranks)
 
 pub laid_stays : (c : Case) (rank : ℕ) → starts c rank ≡ true → laid_below c rank ≡ laid_below c (rank + 1)
-unfolding laid_below starts
+unfolding laid_below starts is_filled
 laid_stays c rank filled = passed_stays (is_filled (root_count c.roots) (first_rank_of c)) (range_with_len 0 c.ranks) rank filled
 
 pub laid_goes : (c : Case) (rank : ℕ) → starts c rank ≡ false
     → filter (λ member. not (member == rank)) (laid_below c rank) ≡ laid_below c (rank + 1)
-unfolding laid_below starts
+unfolding laid_below starts is_filled
 laid_goes c rank empty = passed_goes (is_filled (root_count c.roots) (first_rank_of c)) (range_with_len 0 c.ranks) rank empty
 
-pub laid_end : (c : Case) (rank : ℕ) → c.ranks ≤ rank → laid_below c rank ≡ filter (is_filled (root_count c.roots) (first_rank_of c)) (range_with_len 0 c.ranks)
-unfolding laid_below
+pub laid_end : (c : Case) (rank : ℕ) → c.ranks ≤ rank → laid_below c rank ≡ filter (starts c) (range_with_len 0 c.ranks)
+unfolding laid_below starts is_filled
 laid_end c rank past =
     passed_end (is_filled (root_count c.roots) (first_rank_of c)) c.ranks rank (range_with_len 0 c.ranks)
     (all_members (λ r. r < c.ranks) (range_with_len 0 c.ranks) (λ r is_in. let below : r < 0 + c.ranks = range_within 0 c.ranks r is_in in omega arith)) past

@@ -1,19 +1,197 @@
 -- The forest keeps the laws of round programs.
-use Rattle.std.proofs.Common.{ℕ, ◌+◌, ◌-◌, ◌^◌, ◌<◌, min, arith}
+use Rattle.std.proofs.Common.{◌≡◌, ℕ, zero, suc, ◌+◌, ◌-◌, ◌*◌, ◌^◌, ◌<◌, ◌≤◌, Bool, true, false, cond, min, List, [], ◌∷◌, map, arith, refl, sym, ap, ◌∙◌}
+use Rattle.std.specs.Prelude.{◌==◌, ◌&&◌, nat_lt, filter, Some, None, All}
+use Rattle.std.specs.List.{count_by, range_with_len}
+use Rattle.std.proofs.lemmas.Bool.{and_parts}
+use Rattle.std.proofs.lemmas.Bool.Decides.{nat_tests}
+use Rattle.std.proofs.lemmas.List.{append-nil}
+use Rattle.std.proofs.lemmas.List.Elements.{All-nil, All-cons}
+use Rattle.bf_buddy.specs.Buddy.{predecessor_of}
 use Rattle.bf_program.specs.declared.epoch.Epoch.{Epoch}
-use Rattle.bf_program.specs.Laws.{Laws, KeepsLimits, KeepsGood}
+use Rattle.bf_program.specs.Epochs.{target_of}
+use Rattle.bf_program.specs.Laws.{Laws, KeepsLimits}
+use Rattle.bf_id.specs.declared.shape.Shape.{Shape}
+use Rattle.bf_id.specs.Cube.{Voxel, holds}
+use Rattle.bf_id.specs.Id.{BlockId}
+use Rattle.bf_id.specs.Shape.{InDomain, root_edge}
+use Rattle.bf_case.specs.declared.case.Case.{Case}
+use Rattle.bf_case.specs.Case.{IsScheduled, IsValid}
 use Rattle.bf_block.specs.declared.setup.Setup.{Setup}
+use Rattle.bf_block.specs.Kinds.{block_kind}
+use Rattle.bf_block.specs.Runs.{CanRun}
 use Rattle.bf_block.specs.Setup.{case_of, every_setup_runs}
-use Rattle.bf_case.specs.Case.{IsScheduled}
-use Rattle.bf_forest.specs.GoodLaws.{opening_good, keep_good, restore_good}
+use Rattle.bf_block.specs.Block.{BlockValue}
+use Rattle.bf_parts.specs.Leaves.{part_of, is_filled, side_at}
+use Rattle.bf_parts.specs.Sides.{bare}
+use Rattle.bf_stages.specs.Stages.{head_of, IsStaged, HasSides, HasSpans, HasPieces}
+use Rattle.bf_stages.proofs.StageLemmas.{laws_staged}
+use Rattle.bf_forest.specs.declared.local.ForestLocal.{ForestLocal}
+use Rattle.bf_forest.specs.declared.message.ForestMessage.{ForestMessage}
+use Rattle.bf_forest.specs.declared.message.ForestMessage.TheVariants.{Step as StepMessage, Snapshot as SnapshotMessage}
+use Rattle.bf_forest.specs.declared.stage.Stage.{Stage}
+use Rattle.bf_forest.specs.declared.stage.Stage.TheVariants.{Step, Snapshot, Over}
+use Rattle.bf_forest.specs.BlockLaws.{are_leaves, one_holds, first_part, first_owned, first_filled}
 use Rattle.bf_forest.specs.Goods.{IsGood}
-use Rattle.bf_forest.specs.Meanings.{forest, pieces}
-use Rattle.bf_forest.specs.NextLaws.{next_good}
-use Rattle.bf_forest.specs.PeerLaws.{peers_kept}
-use Rattle.bf_forest.specs.PieceLaws.{pieces_kept}
-use Rattle.bf_forest.specs.ReadLaws.{reads_kept}
-use Rattle.bf_forest.specs.Stages.{span, rounds_of}
-use Rattle.bf_forest.specs.StoredLaws.{one_each, stores_kept, parts_kept}
+use Rattle.bf_forest.specs.Meanings.{forest, pieces, box_in, in_domain, with_heard, heard_of, ended, restored, first_blocks, opened}
+use Rattle.bf_forest.specs.ModelBlocks.{blocks_at, first_home}
+use Rattle.bf_forest.specs.RoundLaws.{has_stages}
+use Rattle.bf_forest.specs.StageLaws.{rounds_many, span_whole}
+use Rattle.bf_forest.specs.Stages.{span, rounds_of, stages_from, stages_of, stage_of}
+use Rattle.bf_forest.specs.Staging.{is_made, leaves_in, Runs, forest_staging}
+use Rattle.bf_forest.specs.Starts.{starts}
+
+-- calls leave the side of the agreed snapshot
+heard_active : (local : ForestLocal) (msg : ForestMessage) → (heard_of local msg).active ≡ local.active
+unfolding heard_of
+heard_active local (StepMessage blocks) = refl
+heard_active local (SnapshotMessage None) = refl
+heard_active local (SnapshotMessage (Some part)) = refl
+
+ended_active : (stage : Stage) (c : Case) (epoch : Epoch) (local : ForestLocal) → (ended stage c epoch local).active ≡ local.active
+unfolding ended
+ended_active (Step time) c epoch local = refl
+ended_active Snapshot c epoch local = refl
+ended_active Over c epoch local = refl
+
+pub sides : (setup : Setup) → HasSides forest forest_staging block_kind setup
+unfolding restored
+sides setup = record {
+  seen = λ view heard. refl;
+  reads = λ local. refl;
+  stored = λ locals. refl;
+  filled = λ local. refl;
+  given = λ side rank epoch. refl;
+  plays = λ epoch stage. record {
+    out = λ local to. refl;
+    hear = λ local peer msg. heard_active local msg;
+    finish = λ local. ended_active stage (case_of setup) epoch local;
+  };
+  parcel = λ local. refl;
+  keep = λ local. refl;
+  restore = λ local rank epoch. refl;
+}
+
+-- an epoch begins with the leaves of its time
+head_leaves : (c : Case) (epoch : Epoch) (time count : ℕ) → time + count ≡ epoch.target → leaves_in c epoch (head_of (stages_from time count) Over) ≡ blocks_at c time
+head_leaves c epoch time zero whole = ap (blocks_at c) (let e : epoch.target ≡ time = omega (arith, whole) in e)
+head_leaves c epoch time (suc count) whole = refl
+
+begins_with : (c : Case) (epoch : Epoch) → epoch.time + span epoch ≡ epoch.target → leaves_in c epoch (head_of (stages_of epoch) Over) ≡ blocks_at c epoch.time
+unfolding stages_of
+begins_with c epoch whole = head_leaves c epoch epoch.time (span epoch) whole
+
+-- the ranks' locals at the opening
+opened_is : (c : Case) (rank : ℕ) → IsValid c → opened c rank ≡ with_heard (record {
+  rank = rank;
+  items = part_of (blocks_at c 0) (first_home c) rank;
+  active = side_at 0 (range_with_len 0 c.ranks) c.shift (blocks_at c 0) (first_home c) rank;
+  spare = bare;
+}) []
+unfolding opened
+opened_is c rank valid =
+    let from : ℕ = predecessor_of (range_with_len 0 c.ranks) rank c.shift in
+    let local : (own : List BlockValue) (other : List BlockValue) → ForestLocal = λ own other. record {
+      rank = rank;
+      blocks = own;
+      heard = [];
+      active = record { time = 0; homes = range_with_len 0 c.ranks; source = from; own = own; other = cond (from == rank) [] other };
+      spare = bare;
+    } in
+    ap (λ (own : List BlockValue). local own (first_blocks c from)) (first_part c rank valid)
+    ∙ ap (local (part_of (blocks_at c 0) (first_home c) rank)) (first_part c from valid)
+
+map_each : {L : Type 0} (f g : ℕ → L) (ranks : List ℕ) → ((rank : ℕ) → f rank ≡ g rank) → map f ranks ≡ map g ranks
+map_each f g [] same = refl
+map_each {L = L} f g (rank ∷ ranks) same = ap (λ (x : L). x ∷ map f ranks) (same rank) ∙ ap (λ (xs : List L). g rank ∷ xs) (map_each f g ranks same)
+
+filter_each : (p q : ℕ → Bool) (ranks : List ℕ) → ((rank : ℕ) → p rank ≡ q rank) → filter p ranks ≡ filter q ranks
+filter_each p q ranks same = ap (λ (t : ℕ → Bool). filter t ranks) (λ i rank. same rank i)
+
+pub whole_span : (setup : Setup) (epoch : Epoch) → Runs (case_of setup) epoch → epoch.time + span epoch ≡ epoch.target
+whole_span setup epoch runs =
+    span_whole (case_of setup).steps (case_of setup).snapshot epoch (every_setup_runs setup).valid.scheduled.short_snapshot runs.begins runs.ends
+
+-- and ends within the run
+pub ends_within : (setup : Setup) (epoch : Epoch) → Runs (case_of setup) epoch → epoch.target ≤ (case_of setup).steps
+ends_within setup epoch runs = at epoch.restored epoch.time epoch.target (case_of setup).steps (case_of setup).snapshot runs.begins runs.ends
+  where
+    at : (b : Bool) (time target steps interval : ℕ) → time ≤ steps → target ≡ cond b time (target_of steps interval time) → target ≤ steps
+    at true time target steps interval low is = omega (arith, low, is)
+    at false time target steps interval low is = omega (arith, low, is)
+
+pub spans : (setup : Setup) → HasSpans forest forest_staging block_kind setup
+spans setup =
+    let c : Case = case_of setup in
+    let runs = every_setup_runs setup in
+    record {
+      first_runs = record { begins = omega arith; ends = refl };
+      commit_runs = λ epoch runs goes_on. record { begins = omega (arith, goes_on); ends = refl };
+      restore_runs = λ epoch lives runs. record { begins = runs.begins; ends = refl };
+      some_stage = λ epoch runs. let many = rounds_many epoch in omega (arith, many);
+      are = λ epoch _. are_leaves c epoch.time runs;
+      begins = λ epoch runs. begins_with c epoch (whole_span setup epoch runs);
+      ends = λ epoch runs. refl;
+      also = λ epoch owner runs owned. tt;
+      fresh = λ epoch owner rank runs. refl;
+      keep = λ epoch view owner rank runs goes_on. refl;
+      home_of = first_home c;
+      housed = first_owned c runs.valid;
+      opening = map_each (opened c) _ (range_with_len 0 c.ranks) (λ rank. opened_is c rank runs.valid);
+      laid = filter_each (starts c) (is_filled (blocks_at c 0) (first_home c)) (range_with_len 0 c.ranks) (first_filled c);
+    }
+
+-- the pieces are the boxes of blocks
+in_domain_tells : (shape : Shape) (v : Voxel) → in_domain shape v ≡ true → InDomain shape v
+in_domain_tells shape v passes =
+    let outer = and_parts (nat_lt v.x (root_edge * shape.nx)) (nat_lt v.y (root_edge * shape.ny) && nat_lt v.z (root_edge * shape.nz)) passes in
+    let inner = and_parts (nat_lt v.y (root_edge * shape.ny)) (nat_lt v.z (root_edge * shape.nz)) outer.1 in
+    record { along_x = below v.x (root_edge * shape.nx) outer.0; along_y = below v.y (root_edge * shape.ny) inner.0; along_z = below v.z (root_edge * shape.nz) inner.1 }
+  where
+    below : (a b : ℕ) → nat_lt a b ≡ true → a < b
+    below a b is = grind (arith, nat_tests)
+
+leaf_holds : (c : Case) (time : ℕ) (owner : BlockId → ℕ) (unit : Voxel) → CanRun c → in_domain c.roots unit ≡ true
+    → count_by (λ key. holds (box_in ((blocks_at c time).item owner key)) unit) (blocks_at c time).keys ≡ 1
+unfolding blocks_at
+leaf_holds c time owner unit runs inside = one_holds c time unit runs (in_domain_tells c.roots unit inside)
+
+pub boxes : (setup : Setup) → HasPieces forest forest_staging block_kind setup pieces box_in (λ local. [])
+boxes setup = record {
+  blind = λ f item unit. refl;
+  of_local = λ local. sym (append-nil (map box_in local.blocks));
+  of_saved = λ side rank home. refl;
+  of_parcel = λ local. refl;
+  parcel_items = λ local. refl;
+  parcel_cargo = λ local. refl;
+  keep_cargo = λ local. refl;
+  fresh_cargo = λ view epoch rank. refl;
+  no_cargo = λ epoch stage view owner rank runs. refl;
+  once = λ epoch stage owner unit runs within. at stage epoch owner unit within;
+}
+  where
+    at : (stage : Stage) (epoch : Epoch) (owner : BlockId → ℕ) (unit : Voxel) → in_domain (case_of setup).roots unit ≡ true
+        → count_by (λ key. holds (box_in ((leaves_in (case_of setup) epoch stage).item owner key)) unit) (leaves_in (case_of setup) epoch stage).keys ≡ 1
+    at (Step time) epoch owner unit within = leaf_holds (case_of setup) time owner unit (every_setup_runs setup) within
+    at Snapshot epoch owner unit within = leaf_holds (case_of setup) epoch.target owner unit (every_setup_runs setup) within
+    at Over epoch owner unit within = leaf_holds (case_of setup) epoch.target owner unit (every_setup_runs setup) within
+
+-- the rounds are the stages
+unmade_from : (time count : ℕ) → All (λ stage. is_made stage ≡ false) (stages_from time count)
+unmade_from time zero = All-cons (λ stage. is_made stage ≡ false) Snapshot [] refl (All-nil (λ stage. is_made stage ≡ false))
+unmade_from time (suc count) = All-cons (λ stage. is_made stage ≡ false) (Step time) (stages_from (time + 1) count) refl (unmade_from (time + 1) count)
+
+all_unmade : (epoch : Epoch) → All (λ stage. is_made stage ≡ false) (stages_of epoch)
+unfolding stages_of
+all_unmade epoch = unmade_from epoch.time (span epoch)
+
+pub staged : (setup : Setup) → IsStaged forest forest_staging setup
+unfolding stage_of
+staged setup = record {
+  rounds = rounds_many;
+  plays = λ epoch round. record { peers = λ local. refl; out = λ local to. refl; take = λ local peer msg. refl; finish = λ local. refl };
+  unmade = all_unmade;
+  made = refl;
+}
 
 -- an epoch has at most 129 rounds
 few_rounds : (epoch : Epoch) → rounds_of epoch < 2 ^ 32
@@ -23,8 +201,8 @@ few_rounds epoch = at_most (epoch.target - epoch.time)
     at_most : (n : ℕ) → min n 128 + 1 < 2 ^ 32
     at_most n = omega arith
 
-limits_kept : (setup : Setup) → KeepsLimits forest setup
-limits_kept setup =
+limits : (setup : Setup) → KeepsLimits forest setup
+limits setup =
     let scheduled : IsScheduled (case_of setup) = (every_setup_runs setup).valid.scheduled in
     record {
       some_rank = scheduled.some_ranks;
@@ -36,22 +214,7 @@ limits_kept setup =
       rounds = λ epoch. few_rounds epoch;
     }
 
-goods_kept : (setup : Setup) → KeepsGood forest IsGood setup
-goods_kept setup = record {
-  opening = opening_good setup;
-  one_each = one_each setup;
-  next = next_good setup;
-  keep = keep_good setup;
-  restore = restore_good setup;
-}
-
 pub lawful_forest : (setup : Setup) → Laws forest pieces IsGood setup
-lawful_forest setup = record {
-  limits = limits_kept setup;
-  goods = goods_kept setup;
-  stores = stores_kept setup (next_good setup);
-  peers = peers_kept setup;
-  saves = reads_kept setup;
-  parts = parts_kept setup;
-  pieces = pieces_kept setup;
-}
+unfolding IsGood
+lawful_forest setup =
+    laws_staged forest forest_staging block_kind setup (staged setup) pieces box_in (λ local. []) (sides setup) (spans setup) (has_stages setup) (boxes setup) (limits setup)

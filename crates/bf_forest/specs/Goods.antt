@@ -1,37 +1,37 @@
 -- Good vectors of the ranks' locals.
-use Rattle.std.specs.Prelude.{◌≡◌, ℕ, ◌≤◌, List, [], All}
+use Rattle.std.specs.Prelude.{◌≡◌, ℕ, nat_lt, List, [], map, if◌then◌else◌}
 use Rattle.bf_program.specs.declared.epoch.Epoch.{Epoch}
-use Rattle.bf_program.specs.Epochs.{target_in}
-use Rattle.bf_id.specs.Shape.{root_count}
+use Rattle.bf_id.specs.Id.{BlockId}
 use Rattle.bf_case.specs.declared.case.Case.{Case}
 use Rattle.bf_block.specs.declared.setup.Setup.{Setup}
-use Rattle.bf_block.specs.Setup.{case_of}
-use Rattle.bf_block.specs.Block.{BlockValue, IsModels, before_regrid}
-use Rattle.bf_parts.specs.Shares.{IsShared}
+use Rattle.bf_parts.specs.Leaves.{AreAmong, part_of, side_at}
+use Rattle.bf_parts.specs.Sides.{bare}
+use Rattle.bf_rounds.specs.Canonical.{IsTold}
+use Rattle.bf_stages.specs.Scenes.{telling_of}
+use Rattle.bf_stages.specs.Stages.{scene_of}
 use Rattle.bf_forest.specs.declared.local.ForestLocal.{ForestLocal}
-use Rattle.bf_forest.specs.Meanings.{forest_look}
+use Rattle.bf_forest.specs.Meanings.{forest}
+use Rattle.bf_forest.specs.ModelBlocks.{blocks_at}
 use Rattle.bf_forest.specs.Stages.{rounds_of, time_at}
+use Rattle.bf_forest.specs.Staging.{forest_staging}
 
--- a block of a case, at a time before its regrid, with the model's cells
-pub record IsBlockAt (c : Case) (time : ℕ) (b : BlockValue) : Type 0 where
-  pub of_case : b.case ≡ c
-  pub at : b.point ≡ before_regrid time
-  pub models : IsModels b
+-- the members' locals at the beginning of a round: those that are told by who owns which block and who has which at home
+unfoldable pub IsGood : Setup → Epoch → (round : ℕ) → List ForestLocal → Type 0
+IsGood setup epoch round locals = IsTold (telling_of forest (scene_of forest_staging)) setup epoch round locals
 
--- at the beginning of a round all blocks of a rank are the model's: its own at the round's time, those of the agreed
--- snapshot at the epoch's time, and once all rounds are done those of the new one at its target
-pub record HasModels (c : Case) (epoch : Epoch) (round : ℕ) (local : ForestLocal) : Type 0 where
-  pub blocks : All (IsBlockAt c (time_at epoch round)) local.blocks
-  pub unheard : local.heard ≡ []
-  pub own : All (IsBlockAt c epoch.time) local.active.own
-  pub other : All (IsBlockAt c epoch.time) local.active.other
-  pub new_own : rounds_of epoch ≤ round → All (IsBlockAt c epoch.target) local.spare.own
-  pub new_other : rounds_of epoch ≤ round → All (IsBlockAt c epoch.target) local.spare.other
+-- a rank's local: its blocks of the model at the round's time, by rising id; its side of the agreed snapshot, and once all rounds are done its side of
+-- the new one
+abbrev pub local_at : Case → Epoch → (round : ℕ) → (owner home : BlockId → ℕ) → (rank : ℕ) → ForestLocal
+local_at c epoch round owner home rank = record {
+  rank = rank;
+  blocks = part_of (blocks_at c (time_at epoch round)) owner rank;
+  heard = [];
+  active = side_at epoch.time epoch.homes c.shift (blocks_at c epoch.time) home rank;
+  spare = if nat_lt round (rounds_of epoch) then bare else side_at epoch.target epoch.members c.shift (blocks_at c epoch.target) owner rank;
+}
 
--- the members' locals at the beginning of a round: each root is at one member and in the agreed snapshot at its
--- holders, and all blocks are the model's
-pub record IsGood (setup : Setup) (epoch : Epoch) (round : ℕ) (locals : List ForestLocal) : Type 0 where
-  pub begins : epoch.time ≤ (case_of setup).steps
-  pub ends : epoch.target ≡ target_in (case_of setup).steps (case_of setup).snapshot epoch
-  pub shared : IsShared forest_look (root_count (case_of setup).roots) (case_of setup).shift (rounds_of epoch) epoch round locals
-  pub models : All (HasModels (case_of setup) epoch round) locals
+-- each leaf has an owner among the members, and each of the agreed snapshot its home, and so are the locals
+pub record AreDealt (c : Case) (epoch : Epoch) (round : ℕ) (owner home : BlockId → ℕ) (locals : List ForestLocal) : Type 0 where
+  pub owned : AreAmong epoch.members (blocks_at c (time_at epoch round)) owner
+  pub housed : AreAmong epoch.homes (blocks_at c epoch.time) home
+  pub are : locals ≡ map (local_at c epoch round owner home) epoch.members

@@ -1,55 +1,145 @@
 -- The blocks of good locals are together the leaves of the model.
-use Rattle.std.proofs.Common.{◌≡◌, ℕ, ◌+◌, ◌<◌, true, List, [], ◌∷◌, length, get_or, flat_map, refl, ap, sym, ◌∙◌, arith, All, subst}
-use Rattle.std.specs.Prelude.{◌==◌, nat_lt, Some}
-use Rattle.std.proofs.lemmas.Bool.{eqb-true, eq-eqb}
-use Rattle.std.proofs.lemmas.Bool.Decides.{nat_tests}
-use Rattle.std.proofs.lemmas.List.Elements.{All-head, All-tail, All-weaker}
-use Rattle.bf_id.specs.Shape.{root_count}
+use Rattle.std.proofs.Common.{◌≡◌, ℕ, ◌+◌, ◌-◌, ◌<◌, Bool, true, false, cond, List, [], ◌∷◌, ◌⊎◌, inl, inr, length, get_or, map, flat_map, refl, ap, sym, ◌∙◌, arith, All, subst}
+use Rattle.std.specs.Prelude.{IsTrue, ◌&&◌, not, nat_lt, Some, None, filter, slice_index_or}
+use Rattle.std.specs.List.{count_by}
+use Rattle.std.proofs.lemmas.Bool.{cases_lt, cases_order}
+use Rattle.std.proofs.lemmas.List.{length-map, get_or-map}
+use Rattle.std.proofs.lemmas.List.Elements.{All-nil, All-append, All-weaker}
 use Rattle.bf_id.specs.Id.{BlockId, root_id, id_eq}
-use Rattle.bf_id.proofs.Boxes.{id_eq_is_equal}
-use Rattle.bf_case.specs.declared.case.Case.{Case}
-use Rattle.bf_case.specs.Map.{Leaf, cells_at}
-use Rattle.bf_case.specs.Model.{model}
-use Rattle.bf_case.proofs.RootModel.{roots_of_model}
-use Rattle.bf_case.proofs.RootSteps.{roots_are}
+use Rattle.bf_buddy.specs.Members.{is_member}
+use Rattle.bf_buddy.specs.Losses.{first_lost_of}
 use Rattle.bf_program.specs.declared.epoch.Epoch.{Epoch}
+use Rattle.bf_program.specs.Restores.{heir_of, restored_epoch, restored_locals}
+use Rattle.bf_case.specs.declared.case.Case.{Case}
+use Rattle.bf_case.specs.Map.{Leaf, cells_at, ids_of}
+use Rattle.bf_case.specs.Model.{model}
 use Rattle.bf_block.specs.declared.setup.Setup.{Setup}
+use Rattle.bf_block.specs.Kinds.{block_kind}
 use Rattle.bf_block.specs.Setup.{case_of, every_setup_runs}
-use Rattle.bf_block.specs.Runs.{never_refines, CanRun}
+use Rattle.bf_block.specs.Runs.{CanRun}
 use Rattle.bf_block.specs.Block.{BlockValue}
-use Rattle.bf_parts.specs.Bools.{iff_same}
-use Rattle.bf_parts.specs.Counts.{count_cons}
-use Rattle.bf_parts.specs.PieceLaws.{held_once, all_together}
-use Rattle.bf_parts.specs.Shares.{held, once}
+use Rattle.bf_parts.specs.CoverLaws.{spread_counted}
+use Rattle.bf_parts.specs.Leaves.{Leaves, AreAmong, part_of, is_filled, side_at}
+use Rattle.bf_parts.specs.Seats.{member_filter}
+use Rattle.bf_parts.specs.SpreadLaws.{owner_filled}
+use Rattle.bf_parts.specs.Sides.{bare}
+use Rattle.bf_parts.specs.Spreads.{view_at}
+use Rattle.bf_stages.specs.Scenes.{World, IsPlaced, is_made as is_made_at, trio_told, local_told}
+use Rattle.bf_stages.specs.Stages.{scene_of}
+use Rattle.bf_stages.proofs.StageLemmas.{looks_staged, epochs_staged}
+use Rattle.bf_stages.proofs.StartLemmas.{spread_told, stored_told, regained_world, regained_placed, restored_told}
 use Rattle.bf_forest.specs.declared.local.ForestLocal.{ForestLocal}
-use Rattle.bf_forest.specs.Goods.{IsBlockAt, HasModels, IsGood}
+use Rattle.bf_forest.specs.BlockLaws.{part_are, one_id, some_leaf}
+use Rattle.bf_forest.specs.ForestLaws.{sides, staged, spans, whole_span, lawful_forest}
+use Rattle.bf_forest.specs.Goods.{IsGood, local_at, AreDealt}
 use Rattle.bf_forest.specs.Leaves.{times_among, AreLeaves}
-use Rattle.bf_forest.specs.Meanings.{forest_look}
-use Rattle.bf_forest.specs.StageLaws.{time_end}
-use Rattle.bf_forest.specs.Stages.{rounds_of, time_at}
-use Rattle.bf_forest.specs.StepLaws.{model_cells, block_root}
+use Rattle.bf_forest.specs.Meanings.{forest, view_of, with_heard}
+use Rattle.bf_forest.specs.ModelBlocks.{blocks_at, IsBlockAt}
+use Rattle.bf_forest.specs.StageLaws.{stage_step, stage_snapshot, stage_over, time_step, time_end, time_first}
+use Rattle.bf_forest.specs.Stages.{span, rounds_of, stage_of, time_at}
+use Rattle.bf_forest.specs.Staging.{leaves_in, Runs, forest_staging}
+use Rattle.bf_forest.specs.StepLaws.{model_cells}
 
--- a root's id is told by its number
-root_test : (i : BlockId) (k : ℕ) → i ≡ root_id i.root → id_eq i (root_id k) ≡ (i.root == k)
-root_test i k root = iff_same (id_eq i (root_id k)) (i.root == k)
-    (λ passed. eq-eqb i.root k (ap (λ (j : BlockId). j.root) ((id_eq_is_equal i (root_id k)).0 passed)))
-    (λ same. (id_eq_is_equal i (root_id k)).1 (root ∙ ap root_id (eqb-true i.root k same)))
+-- the leaves at the beginning of a round
+leaves_now : (c : Case) (epoch : Epoch) (round : ℕ) → epoch.time + span epoch ≡ epoch.target → leaves_in c epoch (stage_of epoch round) ≡ blocks_at c (time_at epoch round)
+leaves_now c epoch round whole = elim (cases_lt round (span epoch)) [
+  | inl before ↦ ap (leaves_in c epoch) (stage_step epoch round before) ∙ ap (blocks_at c) (sym (time_step epoch round before))
+  | inr after ↦ elim (cases_order round (span epoch)) [
+    | inl last ↦ ap (leaves_in c epoch) (stage_snapshot epoch round last) ∙ ap (blocks_at c) (sym (time_end epoch round whole after))
+    | inr other ↦ ap (leaves_in c epoch) (stage_over epoch round (omega (arith, after, apart other))) ∙ ap (blocks_at c) (sym (time_end epoch round whole after))
+  ]
+]
+  where
+    apart : (round < span epoch) ⊎ (span epoch < round) → round ≡ span epoch → ⊥
+    apart (inl less) same = omega (arith, less, same)
+    apart (inr more) same = omega (arith, more, same)
 
--- so roots are counted by their numbers
-pub counted_by_root : (blocks : List BlockValue) (k : ℕ) → All (λ (b : BlockValue). b.id ≡ root_id b.id.root) blocks
-    → times_among blocks (root_id k) ≡ held (λ (b : BlockValue). b.id.root) blocks k
-unfolding held
-counted_by_root [] k roots = refl
-counted_by_root (b ∷ blocks) k roots =
-    count_cons (λ (x : BlockValue). id_eq x.id (root_id k)) b blocks
-    ∙ ap (λ t. once t + times_among blocks (root_id k)) (root_test b.id k (All-head (λ (x : BlockValue). x.id ≡ root_id x.id.root) b blocks roots))
-    ∙ ap (λ n. once (b.id.root == k) + n) (counted_by_root blocks k (All-tail (λ (x : BlockValue). x.id ≡ root_id x.id.root) b blocks roots))
-    ∙ sym (count_cons (λ (x : BlockValue). x.id.root == k) b blocks)
+abbrev pub ForestWorld : Type 0
+ForestWorld = World BlockId
 
--- the blocks of all members at the beginning of a round
+abbrev pub Placed : Setup → Epoch → (round : ℕ) → ForestWorld → Type 0
+Placed setup epoch round world = IsPlaced forest (scene_of forest_staging) setup epoch round world
+
+-- a local that is told, in plain words
+told_is : (setup : Setup) (epoch : Epoch) (round : ℕ) (world : ForestWorld) → Runs (case_of setup) epoch → (rank : ℕ)
+    → local_told forest (scene_of forest_staging) setup epoch round world rank ≡ local_at (case_of setup) epoch round world.owner world.home rank
+unfolding stage_of
+told_is setup epoch round world runs rank =
+    let c : Case = case_of setup in
+    ap (λ (ls : Leaves BlockId BlockValue). with_heard (view_at c.shift epoch (not (nat_lt round (rounds_of epoch)))
+    (record { now = ls; agreed = blocks_at c epoch.time; new = blocks_at c epoch.target }) world.owner world.home rank) []) (leaves_now c epoch round (whole_span setup epoch runs))
+    ∙ at (nat_lt round (rounds_of epoch))
+  where
+    at : (b : Bool) → with_heard (view_at (case_of setup).shift epoch (not b)
+        (record { now = blocks_at (case_of setup) (time_at epoch round); agreed = blocks_at (case_of setup) epoch.time; new = blocks_at (case_of setup) epoch.target }) world.owner world.home rank) []
+        ≡ record (local_at (case_of setup) epoch round world.owner world.home rank) { spare = cond b bare (side_at epoch.target epoch.members (case_of setup).shift (blocks_at (case_of setup) epoch.target) world.owner rank) }
+    at true = refl
+    at false = refl
+
+-- so is each good vector
+locals_are : (setup : Setup) (epoch : Epoch) (round : ℕ) (world : ForestWorld) (ranks : List ℕ) → Runs (case_of setup) epoch
+    → map (local_told forest (scene_of forest_staging) setup epoch round world) ranks ≡ map (local_at (case_of setup) epoch round world.owner world.home) ranks
+locals_are setup epoch round world ranks runs = ap (λ (f : ℕ → ForestLocal). map f ranks) (λ i rank. told_is setup epoch round world runs rank i)
+
+owned_now : (setup : Setup) (epoch : Epoch) (round : ℕ) (world : ForestWorld) → Placed setup epoch round world → AreAmong epoch.members (blocks_at (case_of setup) (time_at epoch round)) world.owner
+unfolding stage_of
+owned_now setup epoch round world placed =
+    subst (λ (ls : Leaves BlockId BlockValue). AreAmong epoch.members ls world.owner) (leaves_now (case_of setup) epoch round (whole_span setup epoch placed.runs)) placed.owned
+
+pub all_dealt : (setup : Setup) (epoch : Epoch) (round : ℕ) (locals : List ForestLocal) → IsGood setup epoch round locals
+    → (owner : BlockId → ℕ) × (home : BlockId → ℕ) × AreDealt (case_of setup) epoch round owner home locals
+unfolding IsGood
+all_dealt setup epoch round locals good = (
+  good.world.owner,
+  good.world.home,
+  record {
+    owned = owned_now setup epoch round good.world good.fits;
+    housed = good.fits.housed;
+    are = good.are ∙ locals_are setup epoch round good.world epoch.members good.fits.runs;
+  },
+)
+
+-- THE LEAVES OF ALL MEMBERS
+parts_are : (c : Case) (epoch : Epoch) (round : ℕ) (owner home : BlockId → ℕ) (ranks : List ℕ) → CanRun c
+    → All (IsBlockAt c (time_at epoch round)) (flat_map (λ (local : ForestLocal). local.blocks) (map (local_at c epoch round owner home) ranks))
+parts_are c epoch round owner home [] runs = All-nil (IsBlockAt c (time_at epoch round))
+parts_are c epoch round owner home (rank ∷ ranks) runs =
+    All-append (IsBlockAt c (time_at epoch round)) (part_of (blocks_at c (time_at epoch round)) owner rank)
+    (flat_map (λ (local : ForestLocal). local.blocks) (map (local_at c epoch round owner home) ranks))
+    (part_are c (time_at epoch round) owner rank runs) (parts_are c epoch round owner home ranks runs)
+
+-- counted by a test of their ids
+ids_counted : (c : Case) (time : ℕ) (owner : BlockId → ℕ) (test : BlockId → Bool)
+    → count_by (λ key. test ((blocks_at c time).item owner key).id) (blocks_at c time).keys ≡ count_by test (ids_of (model c time))
+unfolding blocks_at
+ids_counted c time owner test = refl
+
+counted : (setup : Setup) (epoch : Epoch) (round : ℕ) (locals : List ForestLocal) → IsGood setup epoch round locals → (test : BlockId → Bool)
+    → count_by (λ (b : BlockValue). test b.id) (flat_map (λ (local : ForestLocal). local.blocks) locals) ≡ count_by test (ids_of (model (case_of setup) (time_at epoch round)))
+unfolding IsGood stage_of
+counted setup epoch round locals good test =
+    let c : Case = case_of setup in
+    let world : ForestWorld = good.world in
+    let spread = spread_told forest (scene_of forest_staging) block_kind setup (looks_staged forest forest_staging block_kind setup (staged setup) (sides setup)) epoch round world good.fits in
+    ap (λ (ls : List ForestLocal). count_by (λ (b : BlockValue). test b.id) (flat_map (λ (local : ForestLocal). local.blocks) ls)) good.are
+    ∙ spread_counted view_of c.shift epoch (is_made_at forest (scene_of forest_staging) setup epoch round) (trio_told forest (scene_of forest_staging) setup epoch round)
+    (map (local_told forest (scene_of forest_staging) setup epoch round world) epoch.members) (λ (b : BlockValue). test b.id) spread
+    ∙ ap (λ (ls : Leaves BlockId BlockValue). count_by (λ key. test (ls.item spread.owner key).id) ls.keys) (leaves_now c epoch round (whole_span setup epoch good.fits.runs))
+    ∙ ids_counted c (time_at epoch round) spread.owner test
+
 pub good_leaves : (setup : Setup) (epoch : Epoch) (round : ℕ) (locals : List ForestLocal) → IsGood setup epoch round locals
     → AreLeaves (model (case_of setup) (time_at epoch round)) (flat_map (λ (local : ForestLocal). local.blocks) locals)
-good_leaves setup epoch round locals good = record { cells = cells; once = each_once }
+good_leaves setup epoch round locals good = record {
+  cells = All-weaker (IsBlockAt c time) (λ (b : BlockValue). cells_at (model c time) b.id ≡ Some b.cells) (λ b is. model_cells c time b is) blocks
+      (subst (λ (ls : List ForestLocal). All (IsBlockAt c time) (flat_map (λ (local : ForestLocal). local.blocks) ls)) (sym has.2.are)
+      (parts_are c epoch round has.0 has.1 epoch.members (every_setup_runs setup)));
+  once = λ k d within.
+      let same : get_or (ids_of (model c time)) k d.0 ≡ (get_or (model c time) k d).0 = get_or-map (λ (leaf : Leaf). leaf.0) (model c time) k d d.0 within in
+      let below : k < length (ids_of (model c time)) = omega (arith, within, length-map (model c time) (λ (leaf : Leaf). leaf.0)) in
+      ap (times_among blocks) (sym same)
+      ∙ counted setup epoch round locals good (λ i. id_eq i (get_or (ids_of (model c time)) k d.0))
+      ∙ one_id c time k d.0 (every_setup_runs setup) below;
+}
   where
     c : Case
     c = case_of setup
@@ -57,38 +147,80 @@ good_leaves setup epoch round locals good = record { cells = cells; once = each_
     time : ℕ
     time = time_at epoch round
 
-    runs : CanRun c
-    runs = every_setup_runs setup
-
     blocks : List BlockValue
     blocks = flat_map (λ (local : ForestLocal). local.blocks) locals
 
-    are : All (IsBlockAt c time) blocks
-    are = all_together (IsBlockAt c time) (λ (local : ForestLocal). local.blocks) locals
-        (All-weaker (HasModels c epoch round) (λ (local : ForestLocal). All (IsBlockAt c time) local.blocks) (λ local has. has.blocks) locals good.models)
-
-    cells : All (λ (b : BlockValue). cells_at (model c time) b.id ≡ Some b.cells) blocks
-    cells = All-weaker (IsBlockAt c time) (λ (b : BlockValue). cells_at (model c time) b.id ≡ Some b.cells) (λ b is. model_cells c time b is) blocks are
-
-    roots : All (λ (b : BlockValue). b.id ≡ root_id b.id.root) blocks
-    roots = All-weaker (IsBlockAt c time) (λ (b : BlockValue). b.id ≡ root_id b.id.root) (λ b is. (block_root c time b runs is).0) blocks are
-
-    leaves : (length (model c time) ≡ root_count c.roots) × ((k : ℕ) (d : Leaf) → k < root_count c.roots → (get_or (model c time) k d).0 ≡ root_id k)
-    leaves = roots_are c.roots (model c time) (roots_of_model c time runs.valid (never_refines runs))
-
-    each_once : All (λ (leaf : Leaf). times_among blocks leaf.0 ≡ 1) (model c time)
-    each_once k d within =
-        let below : k < root_count c.roots = omega (arith, leaves.0, within) in
-        let test : nat_lt k (root_count c.roots) ≡ true = grind (arith, nat_tests) in
-        ap (times_among blocks) (leaves.1 k d below)
-        ∙ counted_by_root blocks k roots
-        ∙ held_once forest_look (root_count c.roots) c.shift (rounds_of epoch) epoch round locals good.shared k true test
+    has : (owner : BlockId → ℕ) × (home : BlockId → ℕ) × AreDealt c epoch round owner home locals
+    has = all_dealt setup epoch round locals good
 
 -- the blocks at the end of an epoch
 pub last_leaves : (setup : Setup) (epoch : Epoch) (locals : List ForestLocal) → IsGood setup epoch (rounds_of epoch) locals
     → AreLeaves (model (case_of setup) epoch.target) (flat_map (λ (local : ForestLocal). local.blocks) locals)
+unfolding IsGood
 last_leaves setup epoch locals good =
-    let c = case_of setup in
-    subst (λ t. AreLeaves (model c t) (flat_map (λ (local : ForestLocal). local.blocks) locals))
-    (time_end c.steps c.snapshot epoch (rounds_of epoch) (every_setup_runs setup).valid.scheduled.short_snapshot good.begins good.ends (omega arith))
-    (good_leaves setup epoch (rounds_of epoch) locals good)
+    subst (λ t. AreLeaves (model (case_of setup) t) (flat_map (λ (local : ForestLocal). local.blocks) locals))
+    (time_end epoch (rounds_of epoch) (whole_span setup epoch good.fits.runs) (omega arith)) (good_leaves setup epoch (rounds_of epoch) locals good)
+
+-- A RESTORE
+pub restored_leaves : (setup : Setup) (epoch : Epoch) (round : ℕ) (locals : List ForestLocal) (lives : ℕ → Bool) → IsGood setup epoch round locals
+    → first_lost_of epoch.homes (forest.stored locals) (filter lives epoch.members) (forest.shift setup) ≡ None
+    → AreLeaves (model (case_of setup) epoch.time) (flat_map (λ (local : ForestLocal). local.blocks) (restored_locals forest setup epoch lives locals))
+restored_leaves setup epoch round locals lives good none =
+    let after : List ForestLocal = restored_locals forest setup epoch lives locals in
+    subst (λ time. AreLeaves (model (case_of setup) time) (flat_map (λ (local : ForestLocal). local.blocks) after)) (time_first (restored_epoch lives epoch))
+    (good_leaves setup (restored_epoch lives epoch) 0 after ((lawful_forest setup).goods.restore epoch round locals lives good none))
+
+-- who lives goes on with the blocks whose heir it is
+pub all_regained : (setup : Setup) (epoch : Epoch) (round : ℕ) (locals : List ForestLocal) (lives : ℕ → Bool) → IsGood setup epoch round locals
+    → first_lost_of epoch.homes (forest.stored locals) (filter lives epoch.members) (forest.shift setup) ≡ None
+    → (owner : BlockId → ℕ) × (home : BlockId → ℕ) × AreDealt (case_of setup) epoch round owner home locals
+    × AreDealt (case_of setup) (restored_epoch lives epoch) 0 (λ i. heir_of epoch.homes (filter lives epoch.members) (case_of setup).shift (home i)) home
+    (restored_locals forest setup epoch lives locals)
+unfolding IsGood
+all_regained setup epoch round locals lives good none =
+    let scene = scene_of forest_staging in
+    let looks = looks_staged forest forest_staging block_kind setup (staged setup) (sides setup) in
+    let epochs = epochs_staged forest forest_staging block_kind setup (staged setup) (spans setup) in
+    let after : ForestWorld = regained_world forest scene block_kind setup looks epochs epoch lives good.world in
+    let none_told : first_lost_of epoch.homes (forest.stored (map (local_told forest scene setup epoch round good.world) epoch.members)) (filter lives epoch.members) (forest.shift setup) ≡ None =
+    ap (λ (ls : List ForestLocal). first_lost_of epoch.homes (forest.stored ls) (filter lives epoch.members) (forest.shift setup)) (sym good.are) ∙ none in
+    let placed : Placed setup (restored_epoch lives epoch) 0 after = regained_placed forest scene block_kind setup looks epochs epoch round good.world lives good.fits none_told in (
+      good.world.owner,
+      good.world.home,
+      record {
+        owned = owned_now setup epoch round good.world good.fits;
+        housed = good.fits.housed;
+        are = good.are ∙ locals_are setup epoch round good.world epoch.members good.fits.runs;
+      },
+      record {
+        owned = owned_now setup (restored_epoch lives epoch) 0 after placed;
+        housed = good.fits.housed;
+        are = ap (restored_locals forest setup epoch lives) good.are ∙ restored_told forest scene block_kind setup looks epochs epoch round good.world lives good.fits
+            ∙ locals_are setup (restored_epoch lives epoch) 0 after (filter lives epoch.members) placed.runs;
+      },
+    )
+
+-- THE NUMBER OF ROUNDS, and a home that has a block
+pub round_each : (setup : Setup) (epoch : Epoch) (round : ℕ) (locals : List ForestLocal) → IsGood setup epoch round locals → rounds_of epoch ≡ epoch.target - epoch.time + 1
+unfolding IsGood
+round_each setup epoch round locals good = let whole = whole_span setup epoch good.fits.runs in omega (arith, whole)
+
+pub some_home : (setup : Setup) (epoch : Epoch) (round : ℕ) (locals : List ForestLocal) → IsGood setup epoch round locals
+    → (home : ℕ) × IsTrue (is_member (forest.stored locals) home)
+unfolding IsGood
+some_home setup epoch round locals good =
+    let c : Case = case_of setup in
+    let scene = scene_of forest_staging in
+    let looks = looks_staged forest forest_staging block_kind setup (staged setup) (sides setup) in
+    let leaves : Leaves BlockId BlockValue = blocks_at c epoch.time in
+    let some : 0 < length leaves.keys = some_leaf c epoch.time (every_setup_runs setup) in
+    let i : BlockId = slice_index_or leaves.keys 0 (root_id 0) in
+    let home : ℕ = good.world.home i in
+    let is_home : is_member epoch.homes home ≡ true = good.fits.housed 0 (root_id 0) some in
+    let full : is_filled leaves good.world.home home ≡ true = owner_filled leaves good.world.home 0 (root_id 0) some in
+    let both : (is_member epoch.homes home && is_filled leaves good.world.home home) ≡ true = rw (is_home, full) refl in (
+      home,
+      ap (λ (ls : List ForestLocal). is_member (forest.stored ls) home) good.are
+          ∙ ap (λ homes. is_member homes home) (stored_told forest scene block_kind setup looks epoch round good.world good.fits)
+          ∙ member_filter (is_filled leaves good.world.home) epoch.homes home ∙ both,
+    )

@@ -2,6 +2,7 @@
 use Rattle.std.specs.Prelude.{ℕ, ◌*◌, ◌%◌, ◌^◌, ◌==◌, nat_lt, Bool, ◌&&◌, List, [], ◌++◌, length, sum, map, filter, if◌then◌else◌, Option, Some, None}
 use Rattle.std.specs.List.{range_with_len, sum_by}
 use Rattle.std.specs.Map.{lookup}
+use Rattle.bf_buddy.specs.Buddy.{predecessor_of}
 use Rattle.bf_buddy.specs.Members.{without}
 use Rattle.bf_program.specs.declared.epoch.Epoch.{Epoch}
 use Rattle.bf_program.specs.declared.measure.Measure.{Measure}
@@ -16,27 +17,26 @@ use Rattle.bf_block.specs.declared.setup.Setup.{Setup}
 use Rattle.bf_block.specs.Setup.{case_of}
 use Rattle.bf_block.specs.Block.{BlockValue, initial_block}
 use Rattle.bf_parts.specs.declared.side.Side.{Side}
-use Rattle.bf_parts.specs.Looks.{Look, stored_of}
-use Rattle.bf_parts.specs.Openings.{opening_side}
-use Rattle.bf_parts.specs.Shares.{is_filled}
-use Rattle.bf_parts.specs.Sides.{bare, gives, source_of, has_items, regained, saved_of, is_given}
+use Rattle.bf_parts.specs.Merges.{regained}
+use Rattle.bf_parts.specs.Sides.{bare, gives, source_of, has_items, saved_of, is_given}
+use Rattle.bf_parts.specs.Views.{View, stored_of}
 use Rattle.bf_forest.specs.declared.local.ForestLocal.{ForestLocal}
 use Rattle.bf_forest.specs.declared.message.ForestMessage.{ForestMessage}
 use Rattle.bf_forest.specs.declared.message.ForestMessage.TheVariants.{Step as StepMessage, Snapshot as SnapshotMessage}
 use Rattle.bf_forest.specs.declared.stage.Stage.{Stage}
-use Rattle.bf_forest.specs.declared.stage.Stage.TheVariants.{Step, Snapshot}
+use Rattle.bf_forest.specs.declared.stage.Stage.TheVariants.{Step, Snapshot, Over}
 use Rattle.bf_forest.specs.Gathered.{stepped_among}
+use Rattle.bf_block.specs.Kinds.{block_kind}
+use Rattle.bf_forest.specs.Starts.{starts}
 use Rattle.bf_forest.specs.Stages.{rounds_of, stage_of}
 
--- a block is known by its root, and a rank keeps blocks
-abbrev pub forest_look : Look ForestLocal BlockValue
-forest_look = record {
-  key = λ b. b.id.root;
-  rank = λ local. local.rank;
-  items = λ local. local.blocks;
-  active = λ local. local.active;
-  spare = λ local. local.spare;
-}
+-- a local but for what it has heard
+abbrev pub view_of : ForestLocal → View BlockValue
+view_of local = record { rank = local.rank; items = local.blocks; active = local.active; spare = local.spare }
+
+-- the local that has so much and has heard these blocks
+abbrev pub with_heard : View BlockValue → (heard : List BlockValue) → ForestLocal
+with_heard view heard = record { rank = view.rank; blocks = view.items; heard = heard; active = view.active; spare = view.spare }
 
 -- after how many events a rank dies, if it is to die
 abbrev pub death_of : List (ℕ × ℕ) → (rank : ℕ) → Option ℕ
@@ -44,8 +44,9 @@ death_of deaths rank = lookup (λ dying. dying == rank) deaths
 
 -- the message to a peer: copies of all blocks, or the part of the new snapshot for the buddy
 unfoldable pub told : Stage → (members : List ℕ) → (shift : ℕ) → ForestLocal → (to : ℕ) → ForestMessage
-told Step members shift local to = StepMessage local.blocks
+told (Step time) members shift local to = StepMessage local.blocks
 told Snapshot members shift local to = SnapshotMessage (if gives members shift local.rank to then Some local.blocks else None)
+told Over members shift local to = SnapshotMessage None
 
 -- the local that has heard a peer
 unfoldable pub heard_of : ForestLocal → ForestMessage → ForestLocal
@@ -55,7 +56,7 @@ heard_of local (SnapshotMessage (Some part)) = record local { spare = record loc
 
 -- the local at the end of a round
 unfoldable pub ended : Stage → Case → Epoch → ForestLocal → ForestLocal
-ended Step c epoch local = record local { blocks = stepped_among c (local.blocks ++ local.heard) local.blocks; heard = [] }
+ended (Step time) c epoch local = record local { blocks = stepped_among c (local.blocks ++ local.heard) local.blocks; heard = [] }
 ended Snapshot c epoch local = record local {
   spare = record {
     time = epoch.target;
@@ -65,12 +66,13 @@ ended Snapshot c epoch local = record local {
     other = local.spare.other;
   };
 }
+ended Over c epoch local = local
 
--- a rank's local after a restore
-unfoldable pub restored : Side BlockValue → (rank : ℕ) → (live : List ℕ) → ForestLocal
-restored side rank live = record {
+-- a rank's local after a restore: it goes on with its own part, and with its predecessor's where that is dead, in one rising list
+unfoldable pub restored : Side BlockValue → (shift rank : ℕ) → (live : List ℕ) → ForestLocal
+restored side shift rank live = record {
   rank = rank;
-  blocks = regained side live;
+  blocks = regained block_kind side shift live;
   heard = [];
   active = side;
   spare = bare;
@@ -80,13 +82,23 @@ restored side rank live = record {
 unfoldable pub first_blocks : Case → (rank : ℕ) → List BlockValue
 first_blocks c rank = map (initial_block c) (filter (λ root. first_rank_of c root == rank) (range_with_len 0 (root_count c.roots)))
 
+-- the predecessor's first blocks, where that is another rank
+abbrev pub other_first : Case → (rank predecessor : ℕ) → List BlockValue
+other_first c rank predecessor = if predecessor == rank then [] else first_blocks c predecessor
+
 -- a rank's local at the opening
 unfoldable pub opened : Case → (rank : ℕ) → ForestLocal
 opened c rank = record {
   rank = rank;
   blocks = first_blocks c rank;
   heard = [];
-  active = opening_side (first_blocks c) (range_with_len 0 c.ranks) c.shift rank;
+  active = record {
+    time = 0;
+    homes = range_with_len 0 c.ranks;
+    source = predecessor_of (range_with_len 0 c.ranks) rank c.shift;
+    own = first_blocks c rank;
+    other = other_first c rank (predecessor_of (range_with_len 0 c.ranks) rank c.shift);
+  };
   spare = bare;
 }
 
@@ -119,11 +131,11 @@ forest = record {
   filled = λ local. has_items local.spare.own;
   parcel = λ local. (record local { blocks = [] }, local.blocks);
   keep = λ local. record local { active = local.spare; spare = bare };
-  restore = λ setup local rank epoch. restored local.active rank epoch.members;
+  restore = λ setup local rank epoch. restored local.active (case_of setup).shift rank epoch.members;
   measure = λ msg. measured (blocks_in msg);
   opening = λ setup. map (opened (case_of setup)) (range_with_len 0 (case_of setup).ranks);
-  laid = λ setup. filter (is_filled (root_count (case_of setup).roots) (first_rank_of (case_of setup))) (range_with_len 0 (case_of setup).ranks);
-  stored = stored_of forest_look;
+  laid = λ setup. filter (starts (case_of setup)) (range_with_len 0 (case_of setup).ranks);
+  stored = stored_of view_of;
   reads = λ local. local.active;
   given = λ setup side rank epoch. filter (is_given side rank epoch.members) side.homes;
 }

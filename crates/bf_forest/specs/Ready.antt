@@ -6,7 +6,7 @@ use Rattle.bf_case.specs.Model.{model}
 use Rattle.bf_block.specs.Block.{BlockValue, IsModels, after_regrid, map_at}
 use Rattle.bf_forest.specs.declared.local.ForestLocal.{ForestLocal}
 use Rattle.bf_forest.specs.Gathered.{advanced}
-use Rattle.bf_forest.specs.Goods.{IsBlockAt}
+use Rattle.bf_forest.specs.ModelBlocks.{IsBlockAt}
 use Rattle.bf_forest.specs.StepLaws.{HasRoots}
 
 -- all blocks of a time before its regrid, its own and those that it has heard of; and the run goes on

@@ -1,29 +1,27 @@
 -- Blocks that are the model's make its map together, and a step leads to its next map.
-use Rattle.std.proofs.Common.{◌≡◌, ℕ, ◌+◌, ◌<◌, true, false, List, [], ◌∷◌, get_or, map, Some, ◌⊎◌, inl, inr, Contains, refl, sym, ap, subst, ◌∙◌, All}
+use Rattle.std.proofs.Common.{◌≡◌, ℕ, ◌<◌, true, false, List, [], ◌∷◌, get_or, map, Some, ◌⊎◌, inl, inr, Contains, refl, sym, ap, subst, ◌∙◌, All}
 use Rattle.std.proofs.lemmas.Bool.{cases_Bool}
 use Rattle.std.proofs.lemmas.List.Elements.{All-map, All-weaker, All-contains}
 use Rattle.std.proofs.lemmas.List.FromFn.{fill_by_all}
 use Rattle.bf_id.specs.Shape.{root_count}
-use Rattle.bf_id.specs.Id.{BlockId, level_of, root_id, id_eq}
+use Rattle.bf_id.specs.Id.{BlockId, root_id, id_eq}
 use Rattle.bf_id.proofs.Boxes.{id_eq_is_equal}
 use Rattle.bf_id.proofs.Tilings.{Contains-none, Contains-cons_cases, Contains-from_fn_cases}
-use Rattle.bf_cells.specs.Grid.{Grid, grid_with, table}
+use Rattle.bf_cells.specs.Grid.{Grid, grid_with}
 use Rattle.bf_case.specs.declared.case.Case.{Case}
 use Rattle.bf_case.specs.Map.{Leaf, ids_of, cells_at}
 use Rattle.bf_case.specs.Model.{model}
-use Rattle.bf_case.specs.Sample.{cell_corner}
-use Rattle.bf_case.specs.Stencil.{stencil, stepped_value}
 use Rattle.bf_case.proofs.ListLemmas.{Contains-map}
-use Rattle.bf_case.proofs.LookupLemmas.{leaf_from_cells_at, cells_at-stencil}
+use Rattle.bf_case.proofs.LookupLemmas.{leaf_from_cells_at}
 use Rattle.bf_case.proofs.MapLemmas.{IsRootMap-model}
-use Rattle.bf_case.proofs.RootModel.{roots_of_model, model_next, cells_of_root}
+use Rattle.bf_case.proofs.RootModel.{roots_of_model, cells_of_root}
 use Rattle.bf_case.proofs.RootSteps.{roots_are}
 use Rattle.bf_case.specs.Around.{grid_at, nothing}
 use Rattle.bf_block.specs.declared.point.Point.{Point}
 use Rattle.bf_block.specs.Runs.{never_refines, CanRun}
-use Rattle.bf_block.specs.Block.{BlockValue, map_at, before_regrid}
-use Rattle.bf_forest.specs.Gathered.{leaf_of, cells_or, root_among, gathered, advanced, stepped_among}
-use Rattle.bf_forest.specs.Goods.{IsBlockAt}
+use Rattle.bf_block.specs.Block.{BlockValue, map_at}
+use Rattle.bf_forest.specs.Gathered.{leaf_of, cells_or, root_among, gathered}
+use Rattle.bf_forest.specs.ModelBlocks.{IsBlockAt}
 
 some_grid : (g h : Grid) → Some g ≡ Some h → g ≡ h
 some_grid g h same = cc
@@ -104,32 +102,3 @@ gathered_is_model c time known runs are has =
         some_grid (grid_at (model c time) k) (root_among known k).1
         (sym (cells_of_root c time k runs.valid (never_refines runs) below) ∙ root_cells c time known k runs are has below) in
         λ j. (id j, cells j)
-
--- a block one step later
-advanced_is : (c : Case) (time : ℕ) (b : BlockValue) → CanRun c → IsBlockAt c time b → IsBlockAt c (time + 1) (advanced (stencil c.roots c.side (model c time)) b)
-advanced_is c time b runs is =
-    let after = stencil c.roots c.side (model c time) in
-    let cells : Grid = table c.side (λ x y z. stepped_value c.roots c.side (model c time) (level_of b.id) (cell_corner c.roots c.side b.id x y z)) in
-    let found : cells_at after b.id ≡ Some cells =
-    cells_at-stencil c.roots c.side (model c time) b.id b.cells (IsRootMap-model c time runs.valid (never_refines runs)).map (model_cells c time b is) in
-    let point : before_regrid (b.point.time + 1) ≡ before_regrid (time + 1) = ap (λ (p : Point). before_regrid (p.time + 1)) is.at in
-    let new : cells_at (map_at c (before_regrid (time + 1))) b.id ≡ Some (cells_or (cells_at after b.id) b.cells) =
-    ap (λ (l : List Leaf). cells_at l b.id) (model_next c time runs.valid (never_refines runs)) ∙ found ∙ ap (λ o. Some (cells_or o b.cells)) (sym found) in
-    record {
-      of_case = is.of_case;
-      at = point;
-      models = record {
-        leaf = subst (λ (k : Case). cells_at (map_at k (before_regrid (b.point.time + 1))) b.id ≡ Some (cells_or (cells_at after b.id) b.cells)) (sym is.of_case)
-            (subst (λ (p : Point). cells_at (map_at c p) b.id ≡ Some (cells_or (cells_at after b.id) b.cells)) (sym point) new);
-      };
-    }
-
--- a rank's blocks one step later, where it knows of all blocks
-pub stepped_are : (c : Case) (time : ℕ) (known blocks : List BlockValue) → CanRun c → All (IsBlockAt c time) known → HasRoots c known → All (IsBlockAt c time) blocks
-    → All (IsBlockAt c (time + 1)) (stepped_among c known blocks)
-unfolding stepped_among
-stepped_are c time known blocks runs are has own =
-    subst (λ (leaves : List Leaf). All (IsBlockAt c (time + 1)) (map (advanced (stencil c.roots c.side leaves)) blocks))
-    (sym (gathered_is_model c time known runs are has))
-    (All-map (IsBlockAt c (time + 1)) (advanced (stencil c.roots c.side (model c time))) blocks
-    (All-weaker (IsBlockAt c time) (λ b. IsBlockAt c (time + 1) (advanced (stencil c.roots c.side (model c time)) b)) (λ b is. advanced_is c time b runs is) blocks own))

@@ -1,14 +1,12 @@
 ghost use Rattle.std.specs.Prelude.{◌≡◌, IfOk, OnOk};
 ghost use Rattle.bf_block.specs.Setup.{case_of};
-ghost use Rattle.bf_parts.specs.Sides.{regained};
 ghost use Rattle.bf_forest.specs.Meanings.{death_of, told, heard_of, ended, restored};
 
 use crate::blocks::{append, copies};
 use crate::{ForestLocal, ForestMessage, Stage};
-use bf_block::{Block, Memory, Setup};
+use bf_block::{Memory, Setup};
 use bf_buddy::Members;
-use bf_items::Items;
-use bf_parts::{Side, gives, source_of};
+use bf_parts::{gives, regained, source_of};
 use bf_program::Epoch;
 use std::alloc::Global;
 
@@ -37,12 +35,13 @@ pub fn told(
     ensures { IfOk result (λ msg. msg ≡ told stage members shift local.now to) }
 {
     match stage {
-        Stage::Step => Ok(ForestMessage::Step(copies(alloc, local.blocks.as_slice())?)),
+        Stage::Step { .. } => Ok(ForestMessage::Step(copies(alloc, local.blocks.as_slice())?)),
         Stage::Snapshot => Ok(ForestMessage::Snapshot(if gives(members, shift, local.rank, to) {
             Some(copies(alloc, local.blocks.as_slice())?)
         } else {
             None
         })),
+        Stage::Over => Ok(ForestMessage::Snapshot(None)),
     }
 }
 
@@ -78,28 +77,18 @@ pub fn snap(
     Ok(())
 }
 
-// The blocks of a side that a rank goes on with.
-fn regained(alloc: Global, side: &Side<Block>, live: Members) -> Result<Items<Block>, Memory>
-    ensures { IfOk result (λ items. items ≡ regained side.now live) }
-{
-    let mut items = copies(alloc, side.own.as_slice())?;
-    if !live.has(side.source) {
-        append(&mut items, copies(alloc, side.other.as_slice())?)?;
-    }
-    Ok(items)
-}
-
 /// Goes back to the agreed snapshot, as one of the live.
 #[tactic(auto, unfolding(crate::specs::Meanings::restored))]
 pub fn go_back(
     alloc: Global,
     local: &mut ForestLocal,
+    shift: u32,
     rank: u32,
     live: Members,
 ) -> Result<(), Memory>
-    ensures { OnOk result (local.new ≡ restored local.old.active rank live) }
+    ensures { OnOk result (local.new ≡ restored local.old.active shift rank live) }
 {
-    local.blocks = regained(alloc, &local.active, live)?;
+    local.blocks = regained(alloc, &local.active, live, shift)?;
     local.rank = rank;
     local.heard.clear();
     local.spare.clear();

@@ -6,12 +6,13 @@ ghost use Rattle.bf_buddy.specs.Losses.{first_lost_of};
 ghost use Rattle.bf_program.specs.declared.epoch.Epoch.{Epoch};
 ghost use Rattle.bf_program.specs.Epochs.{first_epoch};
 ghost use Rattle.bf_program.specs.Lockstep.{lockstep, next_locals};
-ghost use Rattle.bf_program.specs.Restores.{restored_locals};
+ghost use Rattle.bf_program.specs.Restores.{heir_of, restored_epoch, restored_locals};
+ghost use Rattle.bf_id.specs.Id.{BlockId};
 ghost use Rattle.bf_case.specs.Model.{model};
 ghost use Rattle.bf_block.specs.declared.setup.Setup.{Setup};
 ghost use Rattle.bf_block.specs.Setup.{case_of};
 ghost use Rattle.bf_forest.specs.declared.local.ForestLocal.{ForestLocal};
-ghost use Rattle.bf_forest.specs.Goods.{IsGood};
+ghost use Rattle.bf_forest.specs.Goods.{IsGood, AreDealt};
 ghost use Rattle.bf_forest.specs.Leaves.{AreLeaves};
 ghost use Rattle.bf_forest.specs.Meanings.{forest};
 ghost use Rattle.bf_forest.specs.Stages.{rounds_of, time_at};
@@ -46,6 +47,14 @@ pub fn the_blocks_are_the_models_leaves()
         → AreLeaves (model (case_of setup) (time_at epoch round)) (flat_map (λ (local : ForestLocal). local.blocks) locals) }
 {}
 
+/// At the beginning of each round a member has the model's blocks of the ids that it owns, by rising id, and nothing that
+/// it heard. Of the agreed snapshot it has the blocks of which it is the home, and those of its predecessor; of the new
+/// one nothing before the last round is done.
+pub fn each_member_has_its_blocks_in_order()
+    ensures { (setup : Setup) (epoch : Epoch) (round : ℕ) (locals : List ForestLocal) → IsGood setup epoch round locals
+        → (owner : BlockId → ℕ) × (home : BlockId → ℕ) × AreDealt (case_of setup) epoch round owner home locals }
+{}
+
 /// Once all rounds are done, what the members give are the leaves of the model's map at the epoch's target.
 pub fn an_epoch_ends_at_the_model()
     ensures { (setup : Setup) (epoch : Epoch) (locals : List ForestLocal) → IsGood setup epoch (rounds_of epoch) locals
@@ -58,6 +67,16 @@ pub fn a_restore_rebuilds_the_agreed_map()
     ensures { (setup : Setup) (epoch : Epoch) (round : ℕ) (locals : List ForestLocal) (lives : ℕ → Bool) → IsGood setup epoch round locals
         → first_lost_of epoch.homes (forest.stored locals) (filter lives epoch.members) (forest.shift setup) ≡ None
         → AreLeaves (model (case_of setup) epoch.time) (flat_map (λ (local : ForestLocal). local.blocks) (restored_locals forest setup epoch lives locals)) }
+{}
+
+/// And each live member goes on with exactly those blocks of the model whose home is itself or the dead home whose buddy
+/// it is, by rising id.
+pub fn a_restore_gives_heirs_their_blocks()
+    ensures { (setup : Setup) (epoch : Epoch) (round : ℕ) (locals : List ForestLocal) (lives : ℕ → Bool) → IsGood setup epoch round locals
+        → first_lost_of epoch.homes (forest.stored locals) (filter lives epoch.members) (forest.shift setup) ≡ None
+        → (owner : BlockId → ℕ) × (home : BlockId → ℕ) × AreDealt (case_of setup) epoch round owner home locals
+        × AreDealt (case_of setup) (restored_epoch lives epoch) 0 (λ i. heir_of epoch.homes (filter lives epoch.members) (case_of setup).shift (home i)) home
+        (restored_locals forest setup epoch lives locals) }
 {}
 
 /// An epoch has a round for each of its steps, and one for the snapshot.

@@ -3,8 +3,7 @@ ghost use Rattle.std.specs.Prelude.{◌≡◌, ℕ, ◌+◌, ◌<◌, List, map,
 ghost use Rattle.std.specs.List.{range_with_len};
 ghost use Rattle.bf_block.specs.Block.{BlockValue};
 ghost use Rattle.bf_block.specs.Setup.{case_of};
-ghost use Rattle.bf_parts.specs.Openings.{other_items};
-ghost use Rattle.bf_forest.specs.Meanings.{first_blocks, unfilled, forest};
+ghost use Rattle.bf_forest.specs.Meanings.{first_blocks, other_first, unfilled, forest};
 
 use crate::ForestLocal;
 use crate::blocks::copies;
@@ -73,7 +72,7 @@ fn copied_other(
 ) -> Result<Items<Block>, Memory>
     requires firsts { firsts.now ≡ map (first_blocks (case_of setup.now)) (range_with_len 0 (case_of setup.now).ranks) }
     requires source { source < (case_of setup.now).ranks }
-    ensures { IfOk result (λ blocks. blocks ≡ other_items (first_blocks (case_of setup.now)) rank source) }
+    ensures { IfOk result (λ blocks. blocks ≡ other_first (case_of setup.now) rank source) }
 {
     if source == rank {
         Ok(Items::new(alloc))

@@ -112,8 +112,9 @@ impl RankProgram for Forest {
         round: u32,
     ) -> Result<(), Memory> {
         match stage_of(&epoch, round) {
-            Stage::Step => step(alloc, setup, local),
+            Stage::Step { .. } => step(alloc, setup, local),
             Stage::Snapshot => snap(alloc, setup, local, epoch),
+            Stage::Over => Ok(()),
         }
     }
 
@@ -137,7 +138,7 @@ impl RankProgram for Forest {
         rank: u32,
         epoch: Epoch,
     ) -> Result<(), Memory> {
-        go_back(alloc, local, rank, epoch.members)
+        go_back(alloc, local, setup.shift(), rank, epoch.members)
     }
 
     fn measure(msg: &ForestMessage) -> Measure {

@@ -83,8 +83,8 @@ fn step_both(
     requires more { 0 < (case_of setup.now).steps }
 {
     let members = Members::all(2);
-    let from_first = told(alloc, Stage::Step, members, 0, first, 1)?;
-    let from_second = told(alloc, Stage::Step, members, 0, second, 0)?;
+    let from_first = told(alloc, Stage::Step { time: 0 }, members, 0, first, 1)?;
+    let from_second = told(alloc, Stage::Step { time: 0 }, members, 0, second, 0)?;
     hear(first, from_second)?;
     hear(second, from_first)?;
     step(alloc, setup, first)?;
@@ -151,8 +151,8 @@ fn expect_both_regained(
     alloc: Global,
     first: &mut ForestLocal,
 ) -> Result<(), Memory> {
-    go_back(alloc, first, 0, lone_member())?;
-    let all = told(alloc, Stage::Step, lone_member(), 0, first, 0)?;
+    go_back(alloc, first, 0, 0, lone_member())?;
+    let all = told(alloc, Stage::Step { time: 1 }, lone_member(), 0, first, 0)?;
     expect_measure(rt, &all, 2, 640);
     let none = told(alloc, Stage::Snapshot, two_members(), 0, first, 0)?;
     expect_measure(rt, &none, 0, 0);

@@ -1,4 +1,4 @@
-use Rattle.bf_forest.specs.HomeLaws.{round_each}
+use Rattle.bf_forest.specs.LeafLaws.{round_each}
 use Rattle.bf_forest.proofs.laws.an_epoch_has_a_round_for_each_step.Goals as goal
 
 pub returns : goal.returns
