@@ -1,7 +1,7 @@
 -- Blocks that are the leaves of a map of roots, in order.
-use Rattle.std.proofs.Common.{◌≡◌, ℕ, zero, suc, ◌+◌, ◌<◌, ◌≤◌, Bool, true, false, cond, List, [], ◌∷◌, length, get_or, map, refl, ap, sym, ◌∙◌, arith, All, zero-add}
+use Rattle.std.proofs.Common.{◌≡◌, ℕ, zero, suc, ◌+◌, ◌<◌, ◌≤◌, Bool, true, false, cond, List, [], ◌∷◌, length, get_or, map, refl, ap, sym, ◌∙◌, arith, All, Contains, zero-add}
 use Rattle.std.specs.Prelude.{◌==◌, ◌&&◌, nat_le, nat_lt, AllPairs, Some, IsPermutation}
-use Rattle.std.specs.List.{range_with_len}
+use Rattle.std.specs.List.{range_with_len, count_by}
 use Rattle.std.specs.List.Sorted.{IsNonDecreasingBy}
 use Rattle.std.proofs.lemmas.Bool.{eqb-true, eq-eqb}
 use Rattle.std.proofs.lemmas.Bool.Decides.{nat_tests}
@@ -11,7 +11,9 @@ use Rattle.std.proofs.lemmas.List.Elements.{All-head, All-tail, All-weaker}
 use Rattle.std.proofs.lemmas.List.FromFn.{length-range_with_len, get_or-range_with_len, fill_by_all}
 use Rattle.std.proofs.lemmas.List.Sorted.{All-permutation, sum_by-IsPermutation}
 use Rattle.bf_id.specs.Shape.{root_count}
-use Rattle.bf_id.specs.Id.{root_id}
+use Rattle.bf_id.specs.Id.{BlockId, root_id, id_eq}
+use Rattle.bf_id.proofs.Boxes.{id_eq_is_equal}
+use Rattle.bf_id.proofs.Tilings.{Contains-head, Contains-tail}
 use Rattle.bf_cells.specs.Grid.{Grid}
 use Rattle.bf_case.specs.declared.case.Case.{Case}
 use Rattle.bf_case.specs.Around.{grid_at, nothing}
@@ -21,12 +23,11 @@ use Rattle.bf_case.proofs.RootModel.{roots_of_model, cells_of_root}
 use Rattle.bf_case.proofs.RootSteps.{roots_are}
 use Rattle.bf_block.specs.Block.{BlockValue}
 use Rattle.bf_block.specs.Runs.{never_refines, CanRun}
-use Rattle.bf_parts.specs.Counts.{held_none, held_cons}
-use Rattle.bf_parts.specs.Shares.{held, once}
+use Rattle.bf_parts.specs.Bools.{iff_same}
+use Rattle.bf_parts.specs.Counts.{count_cons}
+use Rattle.bf_parts.specs.Shares.{once}
 use Rattle.bf_forest.specs.Gathered.{leaf_of}
-use Rattle.bf_forest.specs.LeafLaws.{counted_by_root}
 use Rattle.bf_forest.specs.Leaves.{times_among, AreLeaves}
-use Rattle.bf_forest.specs.SeatLaws.{key_found}
 use Rattle.bf_forest.specs.StepLaws.{root_of_leaf}
 
 -- what does not fall along a list does not fall along its values
@@ -42,6 +43,46 @@ at_place : {X Y : Type 0} (f : X → Y) (g : X → ℕ) (P : X → Type 0) (xs :
 at_place f g P [] k e within all = absurd (omega (arith, within))
 at_place f g P (x ∷ xs) zero e within all = (x, All-head P x xs all, refl, refl)
 at_place f g P (x ∷ xs) (suc k) e within all = at_place f g P xs k e (omega arith) (All-tail P x xs all)
+
+-- how often a key is among items
+pub held : {I : Type 0} (key : I → ℕ) → List I → (k : ℕ) → ℕ
+held key items k = count_by (λ item. key item == k) items
+
+held_none : {I : Type 0} (key : I → ℕ) (k : ℕ) → held key [] k ≡ 0
+unfolding held
+held_none key k = refl
+
+held_cons : {I : Type 0} (key : I → ℕ) (item : I) (items : List I) (k : ℕ) → held key (item ∷ items) k ≡ once (key item == k) + held key items k
+unfolding held
+held_cons key item items k = count_cons (λ item. key item == k) item items
+
+-- a key that is counted is some item's
+key_found : {I : Type 0} (key : I → ℕ) (items : List I) (k n : ℕ) → held key items k ≡ n + 1 → (item : I) × Contains items item × (key item ≡ k)
+key_found key [] k n some = absurd (let none : held key [] k ≡ 0 = held_none key k in omega arith)
+key_found {I = I} key (item ∷ items) k n some = at (key_found key items k n) (key item == k) refl (sym (held_cons key item items k) ∙ some)
+  where
+    at : (held key items k ≡ n + 1 → (i : I) × Contains items i × (key i ≡ k)) → (b : Bool) → (key item == k) ≡ b → once b + held key items k ≡ n + 1
+        → (i : I) × Contains (item ∷ items) i × (key i ≡ k)
+    at later true same counted = (item, Contains-head item items, eqb-true (key item) k same)
+    at later false other counted =
+        let rest = later (sym (zero-add (held key items k)) ∙ counted) in (rest.0, Contains-tail item items rest.0 rest.1, rest.2)
+
+-- a root's id is told by its number
+root_test : (i : BlockId) (k : ℕ) → i ≡ root_id i.root → id_eq i (root_id k) ≡ (i.root == k)
+root_test i k root = iff_same (id_eq i (root_id k)) (i.root == k)
+    (λ passed. eq-eqb i.root k (ap (λ (j : BlockId). j.root) ((id_eq_is_equal i (root_id k)).0 passed)))
+    (λ same. (id_eq_is_equal i (root_id k)).1 (root ∙ ap root_id (eqb-true i.root k same)))
+
+-- so roots are counted by their numbers
+counted_by_root : (blocks : List BlockValue) (k : ℕ) → All (λ (b : BlockValue). b.id ≡ root_id b.id.root) blocks
+    → times_among blocks (root_id k) ≡ held (λ (b : BlockValue). b.id.root) blocks k
+unfolding held
+counted_by_root [] k roots = refl
+counted_by_root (b ∷ blocks) k roots =
+    count_cons (λ (x : BlockValue). id_eq x.id (root_id k)) b blocks
+    ∙ ap (λ t. once t + times_among blocks (root_id k)) (root_test b.id k (All-head (λ (x : BlockValue). x.id ≡ root_id x.id.root) b blocks roots))
+    ∙ ap (λ n. once (b.id.root == k) + n) (counted_by_root blocks k (All-tail (λ (x : BlockValue). x.id ≡ root_id x.id.root) b blocks roots))
+    ∙ sym (count_cons (λ (x : BlockValue). x.id.root == k) b blocks)
 
 -- how often a number is in a list
 abbrev pub times_in : List ℕ → ℕ → ℕ

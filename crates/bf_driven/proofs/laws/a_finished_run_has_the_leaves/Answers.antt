@@ -6,7 +6,7 @@ use Rattle.bf_forest.specs.declared.local.ForestLocal.{ForestLocal}
 use Rattle.bf_forest.specs.LeafLaws.{last_leaves}
 use Rattle.bf_forest.specs.Leaves.{AreLeaves}
 use Rattle.bf_forest.specs.Meanings.{forest}
-use Rattle.bf_forest.specs.StoredLaws.{one_each}
+use Rattle.bf_forest.specs.ForestLaws.{lawful_forest}
 use Rattle.bf_driven.proofs.ParcelLemmas.{parcels_are}
 use Rattle.bf_driven.proofs.laws.a_finished_run_has_the_leaves.Goals as goal
 
@@ -16,7 +16,7 @@ returns c = λ setup journal legal ends.
     let epoch = run.core.epoch in
     let locals = last_locals forest setup run in
     let good = c.the_last_locals_are_good.ensures setup journal legal in
-    parcels_are (model (case_of setup) (case_of setup).steps) epoch.members locals run.parcels (one_each setup epoch (forest.rounds setup epoch) locals good)
+    parcels_are (model (case_of setup) (case_of setup).steps) epoch.members locals run.parcels ((lawful_forest setup).goods.one_each epoch (forest.rounds setup epoch) locals good)
     (subst (λ time. AreLeaves (model (case_of setup) time) (flat_map (λ (local : ForestLocal). local.blocks) locals))
     (c.a_finished_run_is_at_its_end.ensures setup journal legal ends) (last_leaves setup epoch locals good))
     (c.a_finished_run_has_every_parcel.ensures setup journal legal ends)
