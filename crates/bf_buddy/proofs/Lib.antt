@@ -2,3 +2,4 @@ pub mod BitLemmas
 pub mod BuddyLemmas
 pub mod LossLemmas
 pub mod LawLemmas
+pub mod MemberLemmas

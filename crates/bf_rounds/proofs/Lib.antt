@@ -1,6 +1,5 @@
-pub mod MemberLemmas
+pub mod VectorLemmas
 pub mod CourseLemmas
+pub mod LeadLemmas
 pub mod PointLemmas
-pub mod GatheringLemmas
-pub mod DeliveringLemmas
 pub mod StartLemmas

@@ -13,8 +13,9 @@ use Rattle.bf_buddy.specs.Members.{is_member}
 use Rattle.bf_parts.specs.Bools.{eqb_swap}
 use Rattle.bf_parts.specs.Counts.{count_cons}
 use Rattle.bf_rounds.specs.Gathering.{AreMutual}
-use Rattle.bf_rounds.proofs.GatheringLemmas.{peers_rise, peers_others, peers_see}
-use Rattle.bf_rounds.proofs.MemberLemmas.{all_member, member_cut}
+use Rattle.bf_rounds.proofs.LeadLemmas.{peers_rise, peers_others, peers_see}
+use Rattle.bf_buddy.proofs.MemberLemmas.{all_member}
+use Rattle.bf_rounds.proofs.VectorLemmas.{member_cut}
 use Rattle.bf_parts.specs.Merges.{merged}
 use Rattle.bf_parts.specs.MergeLaws.{Precedes, filter_alike, first_pairs, rest_pairs}
 use Rattle.bf_parts.specs.MoveLaws.{AreApart, gathered_is}

@@ -18,7 +18,7 @@ use Rattle.bf_parts.specs.declared.side.Side.{Side}
 use Rattle.bf_parts.specs.Sides.{bare}
 use Rattle.bf_parts.specs.Seats.{member_filter, member_first, member_later, range_rises}
 use Rattle.bf_rounds.specs.Canonical.{KeepsTelling, KeepsStarts}
-use Rattle.bf_rounds.proofs.MemberLemmas.{map_members, map_seats_kept}
+use Rattle.bf_rounds.proofs.VectorLemmas.{map_members, map_seats_kept}
 use Rattle.bf_parts.specs.Leaves.{Kind, Leaves, AreAmong, part_of, is_filled, side_at}
 use Rattle.bf_parts.specs.RestoreLaws.{regained_is}
 use Rattle.bf_parts.specs.StockLaws.{IsHeld}

@@ -6,6 +6,7 @@ use Rattle.bf_program.specs.Meanings.{Meanings}
 use Rattle.bf_parts.specs.declared.side.Side.{Side}
 use Rattle.bf_rounds.specs.Canonical.{Telling}
 use Rattle.bf_rounds.specs.Courses.{Course}
+pub use Rattle.bf_rounds.specs.Leading.{Conserves}
 use Rattle.bf_parts.specs.Leaves.{Leaves, AreAmong, is_filled}
 use Rattle.bf_parts.specs.Views.{View}
 use Rattle.bf_parts.specs.Spreads.{Trio, view_at}
@@ -68,11 +69,3 @@ telling_of m scene = record {
   next = later scene;
   course = scene.course;
 }
-
--- what locals and messages weigh stays the same on the course of a round
-pub record Conserves {L M : Type 0} (of_local : L → ℕ) (of_message : M → ℕ) (members : List ℕ) (course : Course L M) (after : ℕ → L) : Type 0 where
-  pub out : (rank to : ℕ) (done rest : List ℕ) → IsTrue (is_member members rank) → course.peers rank ≡ done ++ to ∷ rest
-      → of_local (course.sent rank (done ++ to ∷ [])) + of_message (course.told rank to) ≡ of_local (course.sent rank done)
-  pub take : (rank peer : ℕ) (done rest : List ℕ) → IsTrue (is_member members rank) → course.peers rank ≡ done ++ peer ∷ rest
-      → of_local (course.heard rank (done ++ peer ∷ [])) ≡ of_local (course.heard rank done) + of_message (course.told peer rank)
-  pub finish : (rank : ℕ) → IsTrue (is_member members rank) → of_local (after rank) ≡ of_local (course.heard rank (course.peers rank))

@@ -9,7 +9,7 @@ use Rattle.bf_program.specs.Meanings.{Meanings, Regions}
 use Rattle.bf_program.specs.Restores.{restored_epoch}
 use Rattle.bf_parts.specs.declared.side.Side.{Side}
 use Rattle.bf_parts.specs.Sides.{bare, has_items, is_given, saved_of}
-use Rattle.bf_rounds.specs.Courses.{Leads}
+use Rattle.bf_rounds.specs.Leading.{Leads}
 use Rattle.bf_parts.specs.Leaves.{Kind, AreLeaves, AreAmong, part_of, is_filled, side_at}
 use Rattle.bf_parts.specs.Views.{View, stored_of}
 use Rattle.bf_parts.specs.Spreads.{kept_view, restored_view}
