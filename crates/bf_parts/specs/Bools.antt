@@ -1,6 +1,6 @@
 -- Facts about tests.
-use Rattle.std.proofs.Common.{◌≡◌, ℕ, Bool, true, false, arith, sym, refl}
-use Rattle.std.specs.Prelude.{◌==◌}
+use Rattle.std.proofs.Common.{◌≡◌, ℕ, suc, Bool, true, false, arith, sym, refl}
+use Rattle.std.specs.Prelude.{◌==◌, not}
 use Rattle.std.proofs.lemmas.Bool.Decides.{nat_tests}
 
 pub iff_same : (a b : Bool) → (a ≡ true → b ≡ true) → (b ≡ true → a ≡ true) → a ≡ b
@@ -10,3 +10,6 @@ iff_same false false there back = refl
 
 pub eqb_swap : (a b : ℕ) → (a == b) ≡ (b == a)
 eqb_swap a b = grind (arith, nat_tests)
+
+pub not_zero : (n : ℕ) → not (suc n == 0) ≡ true
+not_zero n = grind (arith, nat_tests)

@@ -9,7 +9,8 @@ use Rattle.std.proofs.lemmas.List.Elements.{All-head, All-tail}
 use Rattle.std.proofs.lemmas.List.Kept.{AllPairs-from_increasing}
 use Rattle.std.proofs.lemmas.List.Sums.{sum_by-cons, sum_by-append}
 use Rattle.bf_buddy.specs.Members.{is_member}
-use Rattle.bf_parts.specs.Shares.{held, once}
+use Rattle.bf_parts.specs.Shares.{held}
+pub use Rattle.bf_parts.specs.Shares.{once}
 
 pub count_none : {X : Type 0} (test : X → Bool) → count_by test [] ≡ 0
 count_none test = refl

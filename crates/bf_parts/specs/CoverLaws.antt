@@ -1,31 +1,23 @@
--- Pieces of the domain: good locals hold each unit once, holders have the same of a home's part, and a restore gives a rank the pieces of its parts.
+-- Counts of items by any test: two parts merged, the parts of all members, a home's part at its holders, and what a restore gives.
 use Rattle.std.proofs.Common.{◌≡◌, ℕ, ◌+◌, Bool, true, false, cond, List, [], ◌∷◌, map, arith, refl, ap, sym, ◌∙◌}
-use Rattle.std.specs.Prelude.{◌==◌, not, nat_lt, filter, Some, All}
-use Rattle.std.specs.List.{flat_map, count_by, sum_by, AllZip}
+use Rattle.std.proofs.Math.Bool.{or-false, and-true, and-false}
+use Rattle.std.specs.Prelude.{◌==◌, ◌||◌, ◌&&◌, not, filter, All}
+use Rattle.std.specs.List.{flat_map, count_by, sum_by}
 use Rattle.std.specs.List.Sorted.{IsStrictlyIncreasing}
 use Rattle.std.proofs.lemmas.Bool.{eqb-true, eqb-false, eq-eqb}
 use Rattle.std.proofs.lemmas.List.Elements.{All-head, All-tail}
 use Rattle.std.proofs.lemmas.List.Sums.{sum_by-cons}
-use Rattle.bf_buddy.specs.Members.{is_member}
+use Rattle.bf_buddy.proofs.MemberLemmas.{member_head, member_tail}
 use Rattle.bf_buddy.specs.Buddy.{predecessor_of}
-use Rattle.bf_program.specs.declared.epoch.Epoch.{Epoch}
-use Rattle.bf_program.specs.Laws.{times, is_holder}
-use Rattle.bf_program.specs.Lockstep.{local_of}
-use Rattle.bf_program.specs.Meanings.{Meanings, Regions}
-use Rattle.bf_program.specs.Restores.{restored_epoch}
+use Rattle.bf_buddy.specs.Members.{is_member}
+use Rattle.bf_program.specs.Laws.{is_holder}
 use Rattle.bf_parts.specs.declared.side.Side.{Side}
-use Rattle.bf_parts.specs.Counts.{count_cons, count_append, amount_at, member_once, sum_of_both, sum_none}
-use Rattle.bf_parts.specs.SavedLaws.{before, split_sum, given_by}
-use Rattle.bf_parts.specs.Seats.{seat_of, seats_weaker}
-use Rattle.bf_parts.specs.Shares.{once}
-use Rattle.bf_parts.specs.SideLaws.{predecessor_member}
-use Rattle.bf_parts.specs.Sides.{saved_of, is_given}
-use Rattle.bf_parts.specs.Leaves.{Kind, Leaves, part_of, side_at}
+use Rattle.bf_parts.specs.Bools.{not_zero}
+use Rattle.bf_parts.specs.Counts.{once, count_cons, count_append, amount_at, member_once, sum_of_both, sum_none}
+use Rattle.bf_parts.specs.Leaves.{Kind, Leaves, AreAmong, part_of, side_at}
 use Rattle.bf_parts.specs.Merges.{placed, merged, regained, heir_by}
-use Rattle.bf_parts.specs.Views.{View}
-use Rattle.bf_parts.specs.Spreads.{Trio, view_at, IsSpread}
-use Rattle.bf_parts.specs.SpreadLaws.{with_members, live_member}
-use Rattle.bf_parts.specs.Keeping.{Course, trio, HasParts, Spread}
+use Rattle.bf_parts.specs.SideLaws.{predecessor_member, holder_before}
+use Rattle.bf_parts.specs.Sides.{has_items, saved_of, is_given}
 
 -- a home's part, as each of its holders has it, is the same
 pub saved_is : {K I : Type 0} (time : ℕ) (homes : List ℕ) (shift : ℕ) (leaves : Leaves K I) (home_of : K → ℕ) (rank home : ℕ) → IsStrictlyIncreasing homes
@@ -38,7 +30,7 @@ saved_is {I = I} time homes shift leaves home_of rank home up is_home holds = at
         ≡ part_of leaves home_of home
     at true same = ap (part_of leaves home_of) (eqb-true rank home same)
     at false other =
-        let its : predecessor_of homes rank shift ≡ home = before shift homes rank home up is_home other holds in
+        let its : predecessor_of homes rank shift ≡ home = holder_before shift homes rank home up is_home other holds in
         let here : (predecessor_of homes rank shift == home) ≡ true = eq-eqb (predecessor_of homes rank shift) home its in
         let apart : (predecessor_of homes rank shift == rank) ≡ false = differs (predecessor_of homes rank shift) rank (λ again. eqb-false rank home other (sym again ∙ its)) in
         rw (here, apart) (ap (part_of leaves home_of) its)
@@ -78,6 +70,39 @@ count_mapped f test before same [] = refl
 count_mapped f test before same (x ∷ xs) = count_cons test (f x) (map f xs) ∙ ap (λ b. once b + count_by test (map f xs)) (same x)
     ∙ ap (λ n. once (before x) + n) (count_mapped f test before same xs) ∙ sym (count_cons before x xs)
 
+-- the sum over the members that pass a test, of a sum of two
+pub split_sum : (test : ℕ → Bool) (f g h : ℕ → ℕ) (members : List ℕ) → ((member : ℕ) → cond (test member) (f member) 0 ≡ g member + h member)
+    → sum_by f (filter test members) ≡ sum_by g members + sum_by h members
+split_sum test f g h [] split = refl
+split_sum test f g h (member ∷ members) split =
+    at (test member) (split member) (split_sum test f g h members split)
+    ∙ ap (λ n. n + (h member + sum_by h members)) (sym (sum_by-cons g member members))
+    ∙ ap (λ n. sum_by g (member ∷ members) + n) (sym (sum_by-cons h member members))
+  where
+    at : (b : Bool) → cond b (f member) 0 ≡ g member + h member → sum_by f (filter test members) ≡ sum_by g members + sum_by h members
+        → sum_by f (cond b (member ∷ filter test members) (filter test members)) ≡ (g member + sum_by g members) + (h member + sum_by h members)
+    at true here later = sum_by-cons f member (filter test members) ∙ omega arith
+    at false here later = omega arith
+
+-- a part without an item counts nothing
+empty_or_some : {I : Type 0} (test : I → Bool) (items : List I) → cond (has_items items) (count_by test items) 0 ≡ count_by test items
+empty_or_some test [] = refl
+empty_or_some test (item ∷ items) =
+    let some : has_items (item ∷ items) ≡ true = not_zero _ in
+    rw some refl
+
+-- by whether a home is the rank, is its source, and whether the source lives
+pub given_by : {I : Type 0} (test : I → Bool) (own other : List I) (a c l : Bool) → (a ≡ true → c ≡ true → l ≡ true)
+    → cond ((a && has_items own) || (c && (has_items other && not l))) (count_by test (cond a own (cond c other []))) 0
+    ≡ cond a (count_by test own) 0 + cond c (cond l 0 (count_by test other)) 0
+given_by test own other true true true lives = ap (λ b. cond (has_items own || b) (count_by test own) 0) (and-false (has_items other))
+    ∙ ap (λ b. cond b (count_by test own) 0) (or-false (has_items own)) ∙ empty_or_some test own ∙ omega arith
+given_by test own other true true false lives = absurd (let e : false ≡ true = lives refl refl in cc)
+given_by test own other true false l lives = ap (λ b. cond b (count_by test own) 0) (or-false (has_items own)) ∙ empty_or_some test own ∙ omega arith
+given_by test own other false true true lives = ap (λ b. cond b (count_by test other) 0) (and-false (has_items other)) ∙ omega arith
+given_by test own other false true false lives = ap (λ b. cond b (count_by test other) 0) (and-true (has_items other)) ∙ empty_or_some test other ∙ omega arith
+given_by test own other false false l lives = omega arith
+
 -- a restore gives a rank the items of the parts that it is given, counted by any test that doesn't look at owners
 pub given_back : {K I : Type 0} (kind : Kind I) (test : I → Bool) → ((f : ℕ → ℕ) (item : I) → test (kind.remap f item) ≡ test item)
     → (time : ℕ) (homes live : List ℕ) (shift : ℕ) (leaves : Leaves K I) (home_of : K → ℕ) (rank : ℕ) → IsStrictlyIncreasing homes → is_member homes rank ≡ true → is_member live rank ≡ true
@@ -104,10 +129,6 @@ given_back {I = I} kind test blind time homes live shift leaves home_of rank up 
 abbrev amount_of : {K I : Type 0} → (item : K → I) → (owner : K → ℕ) → (test : I → Bool) → List K → (member : ℕ) → ℕ
 amount_of item owner test keys member = count_by test (map item (filter (λ key. owner key == member) keys))
 
-sums_alike : (f g : ℕ → ℕ) (xs : List ℕ) → ((x : ℕ) → f x ≡ g x) → sum_by f xs ≡ sum_by g xs
-sums_alike f g [] same = refl
-sums_alike f g (x ∷ xs) same = sum_by-cons f x xs ∙ ap (λ n. n + sum_by f xs) (same x) ∙ ap (λ n. g x + n) (sums_alike f g xs same) ∙ sym (sum_by-cons g x xs)
-
 module _ {K I : Type 0} (item : K → I) (owner : K → ℕ) (test : I → Bool) (members : List ℕ) (up : IsStrictlyIncreasing members) where
   amount_more : (key : K) (keys : List K) (member : ℕ) → amount_of item owner test (key ∷ keys) member ≡ amount_at (owner key) (once (test (item key))) member + amount_of item owner test keys member
   amount_more key keys member = at (owner key == member)
@@ -117,103 +138,39 @@ module _ {K I : Type 0} (item : K → I) (owner : K → ℕ) (test : I → Bool)
       at true = count_cons test (item key) (map item (filter (λ k. owner k == member) keys))
       at false = omega arith
 
-  pub parts_counted : (keys : List K) → All (λ key. is_member members (owner key) ≡ true) keys → sum_by (amount_of item owner test keys) members ≡ count_by (λ key. test (item key)) keys
-  parts_counted [] owned = sum_none members
-  parts_counted (key ∷ keys) owned =
+  amounts_counted : (keys : List K) → All (λ key. is_member members (owner key) ≡ true) keys → sum_by (amount_of item owner test keys) members ≡ count_by (λ key. test (item key)) keys
+  amounts_counted [] owned = sum_none members
+  amounts_counted (key ∷ keys) owned =
       sum_of_both (amount_of item owner test (key ∷ keys)) (amount_at (owner key) (once (test (item key)))) (amount_of item owner test keys) members (amount_more key keys)
       ∙ ap (λ n. n + sum_by (amount_of item owner test keys) members)
       (member_once (owner key) (once (test (item key))) members up (All-head (λ key. is_member members (owner key) ≡ true) key keys owned))
-      ∙ ap (λ n. once (test (item key)) + n) (parts_counted keys (All-tail (λ key. is_member members (owner key) ≡ true) key keys owned))
+      ∙ ap (λ n. once (test (item key)) + n) (amounts_counted keys (All-tail (λ key. is_member members (owner key) ≡ true) key keys owned))
       ∙ sym (count_cons (λ key. test (item key)) key keys)
 
--- what locals hold together
-counted_together : {L I : Type 0} (test : I → Bool) (items : L → List I) (amount : ℕ → ℕ) (members : List ℕ) (locals : List L)
-    → AllZip (λ (member : ℕ) (local : L). count_by test (items local) ≡ amount member) members locals → count_by test (flat_map items locals) ≡ sum_by amount members
-counted_together test items amount [] [] each = refl
-counted_together test items amount [] (x ∷ locals) each = absurd each
-counted_together test items amount (member ∷ members) [] each = absurd each
-counted_together test items amount (member ∷ members) (x ∷ locals) each =
-    count_append test (items x) (flat_map items locals) ∙ ap (λ n. n + count_by test (flat_map items locals)) each.0
-    ∙ ap (λ n. amount member + n) (counted_together test items amount members locals each.1) ∙ sym (sum_by-cons amount member members)
-
--- all leaves are at the members, each once, by whichever test they are counted
-pub spread_counted : {L K I : Type 0} (look : L → View I) (shift : ℕ) (epoch : Epoch) (is_made : Bool) (leaves : Trio K I) (locals : List L) (test : I → Bool)
-    (spread : IsSpread look shift epoch is_made leaves locals)
-    → count_by test (flat_map (λ local. (look local).items) locals) ≡ count_by (λ key. test (leaves.now.item spread.owner key)) leaves.now.keys
+-- each leaf is in one part, by whichever test leaves are counted
+pub parts_counted : {K I : Type 0} (leaves : Leaves K I) (owner : K → ℕ) (test : I → Bool) (members : List ℕ) → IsStrictlyIncreasing members → AreAmong members leaves owner
+    → sum_by (λ rank. count_by test (part_of leaves owner rank)) members ≡ count_by (λ key. test (leaves.item owner key)) leaves.keys
 unfolding part_of
-spread_counted {L = L} look shift epoch is_made leaves locals test spread =
-    counted_together test (λ local. (look local).items) (amount_of (leaves.now.item spread.owner) spread.owner test leaves.now.keys) epoch.members locals
-    (seats_weaker (λ (rank : ℕ) (local : L). look local ≡ view_at shift epoch is_made leaves spread.owner spread.home_of rank)
-    (λ (member : ℕ) (local : L). count_by test (look local).items ≡ amount_of (leaves.now.item spread.owner) spread.owner test leaves.now.keys member) epoch.members locals spread.each
-    (λ rank local is. ap (λ v. count_by test v.items) is))
-    ∙ parts_counted (leaves.now.item spread.owner) spread.owner test epoch.members spread.held.members_rise leaves.now.keys spread.owned
+parts_counted leaves owner test members up owned = amounts_counted (leaves.item owner) owner test members up leaves.keys owned
 
--- an item covers a unit where its key does, whoever owns what it is linked with
-pub record HasCovers {S L M T I B U : Type 0} (m : Meanings S L M T (Side I)) (look : L → View I) (kind : Kind I) (regions : Regions S L M T (Side I) B U) (setup : S)
-    (covers : I → U → Bool) : Type 0 where
-  pub blind : (f : ℕ → ℕ) (item : I) (unit : U) → covers (kind.remap f item) unit ≡ covers item unit
-  pub of_saved : (side : Side I) (rank home : ℕ) (unit : U) → times regions (regions.of_saved side rank home) unit ≡ count_by (λ item. covers item unit) (saved_of side rank home)
-  pub of_restored : (local : L) (rank : ℕ) (epoch : Epoch) (unit : U) → times regions (regions.of_local (m.restore setup local rank epoch)) unit
-      ≡ count_by (λ item. covers item unit) (look (m.restore setup local rank epoch)).items
+-- what all members have together, where what each has is told by its rank
+pub count_told : {L I : Type 0} (test : I → Bool) (items : L → List I) (at : ℕ → L) (amount : ℕ → ℕ) (members : List ℕ)
+    → ((rank : ℕ) → is_member members rank ≡ true → count_by test (items (at rank)) ≡ amount rank) → count_by test (flat_map items (map at members)) ≡ sum_by amount members
+count_told test items at amount [] each = refl
+count_told test items at amount (member ∷ members) each =
+    count_append test (items (at member)) (flat_map items (map at members))
+    ∙ ap (λ n. n + count_by test (flat_map items (map at members))) (each member (member_head member members))
+    ∙ ap (λ n. amount member + n) (count_told test items at amount members (λ rank is_in. each rank (member_tail member rank members is_in)))
+    ∙ sym (sum_by-cons amount member members)
 
-module _ {S L M T K I B U : Type 0} (m : Meanings S L M T (Side I)) (look : L → View I) (kind : Kind I) (course : Course K I) (regions : Regions S L M T (Side I) B U) (setup : S)
-    (covers : I → U → Bool) (has : HasParts m look kind setup) (pieces : HasCovers m look kind regions setup covers) where
-  -- the pieces of a restored rank
-  pub restored_pieces : (epoch : Epoch) (round : ℕ) (locals : List L) (lives : ℕ → Bool) (rank : ℕ) (local : L) (unit : U) → Spread m look course setup epoch round locals
-      → local_of epoch.members locals rank ≡ Some local → lives rank ≡ true
-      → times regions (regions.of_local (m.restore setup local rank (restored_epoch lives epoch))) unit
-      ≡ sum_by (λ home. times regions (regions.of_saved (m.reads local) rank home) unit) (m.given setup (m.reads local) rank (restored_epoch lives epoch))
-  restored_pieces epoch round locals lives rank local unit spread its live =
-      let Is : ℕ → L → Type 0 = λ r l. (is_member epoch.members r ≡ true) × (look l ≡ view_at (m.shift setup) epoch (not (nat_lt round (m.rounds setup epoch))) (trio course epoch round) spread.owner spread.home_of r) in
-      let is = seat_of Is epoch.members locals rank local
-      (with_members (λ (r : ℕ) (l : L). look l ≡ view_at (m.shift setup) epoch (not (nat_lt round (m.rounds setup epoch))) (trio course epoch round) spread.owner spread.home_of r) epoch.members locals spread.each) its in
-      let side : Side I = side_at epoch.time epoch.homes (m.shift setup) (course.at epoch.time) spread.home_of rank in
-      let agreed : (look local).active ≡ side = ap (λ v. v.active) is.1 in
-      let live_list : List ℕ = filter lives epoch.members in
-      pieces.of_restored local rank (restored_epoch lives epoch) unit
-      ∙ ap (λ (v : View I). count_by (λ item. covers item unit) v.items) (has.restore local rank (restored_epoch lives epoch))
-      ∙ ap (λ (s : Side I). count_by (λ item. covers item unit) (regained kind s (m.shift setup) live_list)) agreed
-      ∙ given_back kind (λ item. covers item unit) (λ f item. pieces.blind f item unit) epoch.time epoch.homes live_list (m.shift setup) (course.at epoch.time) spread.home_of rank
-      spread.held.homes_rise (spread.held.among rank is.0) (live_member lives epoch.members rank is.0 live)
-      ∙ ap (sum_by (λ home. count_by (λ item. covers item unit) (saved_of side rank home))) (sym (has.given side rank (restored_epoch lives epoch)))
-      ∙ ap (λ (f : ℕ → ℕ). sum_by f (m.given setup side rank (restored_epoch lives epoch))) (λ i home. sym (pieces.of_saved side rank home unit) i)
-      ∙ ap (λ (s : Side I). sum_by (λ home. times regions (regions.of_saved s rank home) unit) (m.given setup s rank (restored_epoch lives epoch))) (sym (has.reads local ∙ agreed))
-
-  -- two holders of a home's part
-  saved_at : (epoch : Epoch) (round : ℕ) (locals : List L) (rank home : ℕ) (local : L) (spread : Spread m look course setup epoch round locals)
-      → local_of epoch.members locals rank ≡ Some local → is_member epoch.homes home ≡ true → is_holder epoch.homes (m.shift setup) home rank ≡ true
-      → saved_of (m.reads local) rank home ≡ part_of (course.at epoch.time) spread.home_of home
-  saved_at epoch round locals rank home local spread its is_home holds =
-      let is = seat_of (λ (r : ℕ) (l : L). look l ≡ view_at (m.shift setup) epoch (not (nat_lt round (m.rounds setup epoch))) (trio course epoch round) spread.owner spread.home_of r) epoch.members locals rank local spread.each its in
-      ap (λ (s : Side I). saved_of s rank home) (has.reads local ∙ ap (λ v. v.active) is)
-      ∙ saved_is epoch.time epoch.homes (m.shift setup) (course.at epoch.time) spread.home_of rank home spread.held.homes_rise is_home holds
-
-  pub saved_pieces : (epoch : Epoch) (round : ℕ) (locals : List L) (a b home : ℕ) (of_a of_b : L) (unit : U) → Spread m look course setup epoch round locals
-      → local_of epoch.members locals a ≡ Some of_a → local_of epoch.members locals b ≡ Some of_b → is_member epoch.homes home ≡ true
-      → is_holder epoch.homes (m.shift setup) home a ≡ true → is_holder epoch.homes (m.shift setup) home b ≡ true
-      → times regions (regions.of_saved (m.reads of_a) a home) unit ≡ times regions (regions.of_saved (m.reads of_b) b home) unit
-  saved_pieces epoch round locals a b home of_a of_b unit spread its_a its_b is_home holds_a holds_b =
-      pieces.of_saved (m.reads of_a) a home unit
-      ∙ ap (count_by (λ item. covers item unit)) (saved_at epoch round locals a home of_a spread its_a is_home holds_a ∙ sym (saved_at epoch round locals b home of_b spread its_b is_home holds_b))
-      ∙ sym (pieces.of_saved (m.reads of_b) b home unit)
-
-  -- each unit of the domain is in the pieces once, where it is in one leaf and the pieces of good locals are their items
-  pub whole_pieces : (epoch : Epoch) (round : ℕ) (locals : List L) (unit : U) (spread : Spread m look course setup epoch round locals)
-      → All (λ local. times regions (regions.of_local local) unit ≡ count_by (λ item. covers item unit) (look local).items) locals
-      → count_by (λ key. covers ((course.now epoch round).item spread.owner key) unit) (course.now epoch round).keys ≡ 1
-      → times regions (flat_map regions.of_local locals) unit ≡ 1
-  whole_pieces epoch round locals unit spread alike one =
-      of_all locals alike
-      ∙ spread_counted look (m.shift setup) epoch (not (nat_lt round (m.rounds setup epoch))) (trio course epoch round) locals (λ item. covers item unit) spread
-      ∙ one
-    where
-      of_all : (locals : List L) → All (λ local. times regions (regions.of_local local) unit ≡ count_by (λ item. covers item unit) (look local).items) locals
-          → times regions (flat_map regions.of_local locals) unit ≡ count_by (λ item. covers item unit) (flat_map (λ local. (look local).items) locals)
-      of_all [] alike = refl
-      of_all (local ∷ locals) alike =
-          count_append (λ box. regions.holds box unit) (regions.of_local local) (flat_map regions.of_local locals)
-          ∙ ap (λ n. n + times regions (flat_map regions.of_local locals) unit)
-          (All-head (λ local. times regions (regions.of_local local) unit ≡ count_by (λ item. covers item unit) (look local).items) local locals alike)
-          ∙ ap (λ n. count_by (λ item. covers item unit) (look local).items + n)
-          (of_all locals (All-tail (λ local. times regions (regions.of_local local) unit ≡ count_by (λ item. covers item unit) (look local).items) local locals alike))
-          ∙ sym (count_append (λ item. covers item unit) (look local).items (flat_map (λ local. (look local).items) locals))
+-- the parts of all members together have each leaf once
+pub parts_together : {K I : Type 0} (leaves : Leaves K I) (owner : K → ℕ) (test : I → Bool) (members : List ℕ) → IsStrictlyIncreasing members → AreAmong members leaves owner
+    → count_by test (flat_map (part_of leaves owner) members) ≡ count_by (λ key. test (leaves.item owner key)) leaves.keys
+parts_together leaves owner test members up owned =
+    ap (λ ranks. count_by test (flat_map (part_of leaves owner) ranks)) (sym (map_same members))
+    ∙ count_told test (part_of leaves owner) (λ rank. rank) (λ rank. count_by test (part_of leaves owner rank)) members (λ rank is_in. refl)
+    ∙ parts_counted leaves owner test members up owned
+  where
+    map_same : (ranks : List ℕ) → map (λ rank. rank) ranks ≡ ranks
+    map_same [] = refl
+    map_same (rank ∷ ranks) = ap (λ rest. rank ∷ rest) (map_same ranks)

@@ -11,6 +11,7 @@ use Rattle.bf_buddy.specs.Buddy.{buddy_of, predecessor_of}
 use Rattle.bf_buddy.proofs.LawLemmas.{predecessor_undoes}
 use Rattle.bf_program.specs.Lockstep.{local_of}
 use Rattle.bf_parts.specs.declared.side.Side.{Side}
+pub use Rattle.bf_parts.specs.Bools.{not_zero}
 use Rattle.bf_parts.specs.Bools.{iff_same}
 use Rattle.bf_parts.specs.Counts.{held_none, held_cons}
 use Rattle.bf_parts.specs.Shares.{held, once, is_filled, AreOf, AreCopies, IsSide, IsHeld}
@@ -60,9 +61,6 @@ filler count home_of home filled =
     (found.0, (omega arith, eqb-true (home_of found.0) home found.1.1))
 
 -- items and counts of them
-pub not_zero : (n : ℕ) → not (suc n == 0) ≡ true
-not_zero n = grind (arith, nat_tests)
-
 holds_some : {I : Type 0} (key : I → ℕ) (items : List I) (k : ℕ) → held key items k ≡ 1 → has_items items ≡ true
 holds_some key [] k one = absurd (let none : held key [] k ≡ 0 = held_none key k in omega arith)
 holds_some key (item ∷ items) k one = not_zero (length items)

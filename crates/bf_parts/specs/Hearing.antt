@@ -3,8 +3,7 @@ use Rattle.std.proofs.Common.{◌≡◌, ℕ, Bool, true, false, List, [], ◌�
 use Rattle.std.specs.Prelude.{◌==◌, ◌||◌}
 use Rattle.std.specs.List.{fold}
 use Rattle.bf_buddy.specs.Members.{is_member}
-use Rattle.bf_buddy.specs.Buddy.{predecessor_of}
-use Rattle.bf_parts.specs.Sides.{source_of}
+pub use Rattle.bf_parts.specs.SideLaws.{source_is}
 
 -- of locals of a kind, with the one peer's number and what it makes of a local
 pub record HearsOne {L : Type 0} (Is : L → Type 0) (hear : L → ℕ → L) (source : ℕ) (given : L → L) : Type 0 where
@@ -42,8 +41,3 @@ module _ {L : Type 0} (Is : L → Type 0) (hear : L → ℕ → L) (source : ℕ
           → fold hear (hear local peer) peers ≡ given local
       at rest true same here = ap (λ l. fold hear l peers) (one.its local peer is same) ∙ given_stays local peers is
       at rest false other later = ap (λ l. fold hear l peers) (one.others local peer is other) ∙ rest later
-
--- a member's source is its predecessor
-pub source_is : (members : List ℕ) (shift rank : ℕ) → is_member members rank ≡ true → source_of members shift rank ≡ predecessor_of members rank shift
-unfolding source_of
-source_is members shift rank is_in = rw is_in refl

@@ -22,12 +22,9 @@ pub mod MergeLaws
 pub mod Merges
 pub mod MoveLaws
 pub mod CoverLaws
-pub mod KeepingLaws
-pub mod Keeping
 pub mod RestoreLaws
 pub mod SnapshotLaws
 pub mod SnapshotRounds
-pub mod SpreadLaws
 pub mod Spreads
 pub mod StockLaws
 pub mod Views

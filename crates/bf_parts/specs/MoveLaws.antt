@@ -2,25 +2,19 @@
 use Rattle.std.proofs.Common.{◌≡◌, ℕ, Bool, true, false, cond, List, [], ◌∷◌, map, refl, ap, sym, ◌∙◌}
 use Rattle.std.proofs.Math.Bool.{or-false, and-true, and-false}
 use Rattle.std.specs.Prelude.{◌==◌, ◌||◌, ◌&&◌, filter, AllPairs}
-use Rattle.std.specs.List.{fold, AllZip}
+use Rattle.std.specs.List.{fold}
 use Rattle.std.proofs.lemmas.Bool.{eqb-true, and_parts}
+use Rattle.std.proofs.lemmas.List.Elements.{filter_agree}
 use Rattle.bf_buddy.specs.Members.{is_member}
-use Rattle.bf_program.specs.declared.epoch.Epoch.{Epoch}
 use Rattle.bf_parts.specs.Bools.{eqb_swap}
 use Rattle.bf_parts.specs.Leaves.{Kind, Leaves, AreLeaves, AreAmong, part_of}
 use Rattle.bf_parts.specs.Merges.{merged}
 use Rattle.bf_parts.specs.MergeLaws.{Precedes, merged_is, filter_alike}
-use Rattle.bf_parts.specs.Views.{View}
-use Rattle.bf_parts.specs.Spreads.{Trio, view_at, IsSpread}
 
 -- no rank twice
 abbrev pub AreApart : List ℕ → Type 0
 AreApart [] = Unit {0}
 AreApart (rank ∷ ranks) = (is_member ranks rank ≡ false) × AreApart ranks
-
-same_filters : {K : Type 0} (p q : K → Bool) → ((k : K) → p k ≡ q k) → (ks : List K) → filter p ks ≡ filter q ks
-same_filters p q same [] = refl
-same_filters p q same (k ∷ ks) = ap (λ b. cond b (k ∷ filter p ks) (filter p ks)) (same k) ∙ ap (λ rest. cond (q k) (k ∷ rest) rest) (same_filters p q same ks)
 
 module _ {K I : Type 0} (first : I → I → Bool) (item : K → I) (keys : List K) (rising : AllPairs (Precedes first item) keys) (class : K → ℕ) (base : K → Bool) where
   -- those of a class that pass a test
@@ -31,14 +25,14 @@ module _ {K I : Type 0} (first : I → I → Bool) (item : K → I) (keys : List
   pub gathered_is : (classes : List ℕ) (there : K → Bool) → AreApart classes → ((k : K) → there k ≡ true → is_member classes (class k) ≡ false)
       → fold (λ items c. merged first items (map item (filter (λ k. base k && class k == c) keys))) (map item (filter (λ k. base k && there k) keys)) classes
       ≡ map item (filter (λ k. base k && (there k || is_member classes (class k))) keys)
-  gathered_is [] there apart fresh = ap (map item) (same_filters _ _ (λ k. ap (λ b. base k && b) (sym (or-false (there k)))) keys)
+  gathered_is [] there apart fresh = ap (map item) (filter_agree _ _ (λ k. ap (λ b. base k && b) (sym (or-false (there k)))) keys)
   gathered_is (c ∷ classes) there apart fresh =
       ap (λ items. fold (λ items c. merged first items (map item (filter (λ k. base k && class k == c) keys))) items classes)
       (merged_is first item (λ k. base k && there k) (λ k. base k && class k == c)
       (λ k was. ap (λ b. base k && b) (not_first k (fresh k (and_parts (base k) (there k) was).1)) ∙ and-false (base k)) keys rising
-      ∙ ap (map item) (same_filters (λ k. (base k && there k) || (base k && class k == c)) (λ k. base k && (there k || class k == c)) (λ k. both (base k) (there k) (class k == c)) keys))
+      ∙ ap (map item) (filter_agree (λ k. (base k && there k) || (base k && class k == c)) (λ k. base k && (there k || class k == c)) (λ k. both (base k) (there k) (class k == c)) keys))
       ∙ gathered_is classes (λ k. there k || class k == c) apart.1 (λ k now. later k (there k) (class k == c) refl refl now)
-      ∙ ap (map item) (same_filters (λ k. base k && ((there k || class k == c) || is_member classes (class k))) (λ k. base k && (there k || is_member (c ∷ classes) (class k)))
+      ∙ ap (map item) (filter_agree (λ k. base k && ((there k || class k == c) || is_member classes (class k))) (λ k. base k && (there k || is_member (c ∷ classes) (class k)))
       (λ k. ap (λ b. base k && b) (joined (there k) (class k == c) (is_member classes (class k)) ∙ ap (λ b. there k || (b || is_member classes (class k))) (eqb_swap (class k) c))) keys)
     where
       both : (a b c : Bool) → ((a && b) || (a && c)) ≡ (a && (b || c))
@@ -77,14 +71,3 @@ moved_is kind leaves are owner later rank peers apart among =
     ∙ ap (map (leaves.item later))
     (filter_alike (λ k. is_member (rank ∷ peers) (owner k) ≡ true) (λ k. later k == rank && (owner k == rank || is_member peers (owner k))) (λ k. later k == rank)
     (λ k someone. ap (λ b. later k == rank && b) (ap (λ b. b || is_member peers (owner k)) (eqb_swap (owner k) rank) ∙ someone) ∙ and-true (later k == rank)) leaves.keys among)
-
--- what is seen of all locals, as one list
-pub views_are : {L K I : Type 0} (look : L → View I) (shift : ℕ) (epoch : Epoch) (is_made : Bool) (leaves : Trio K I) (locals : List L) (spread : IsSpread look shift epoch is_made leaves locals)
-    → map look locals ≡ map (view_at shift epoch is_made leaves spread.owner spread.home_of) epoch.members
-views_are {L = L} {I = I} look shift epoch is_made leaves locals spread = walk (view_at shift epoch is_made leaves spread.owner spread.home_of) epoch.members locals spread.each
-  where
-    walk : (at : ℕ → View I) (members : List ℕ) (locals : List L) → AllZip (λ (rank : ℕ) (local : L). look local ≡ at rank) members locals → map look locals ≡ map at members
-    walk at [] [] each = refl
-    walk at [] (x ∷ locals) each = absurd each
-    walk at (member ∷ members) [] each = absurd each
-    walk at (member ∷ members) (x ∷ locals) each = ap (λ v. v ∷ map look locals) each.0 ∙ ap (λ vs. at member ∷ vs) (walk at members locals each.1)

@@ -15,17 +15,9 @@ use Rattle.bf_parts.specs.Bools.{eqb_swap}
 use Rattle.bf_parts.specs.Counts.{count_append, amount_at, member_once}
 use Rattle.bf_parts.specs.FillLaws.{not_zero}
 use Rattle.bf_parts.specs.Shares.{held, once, AreOf, IsSide}
-use Rattle.bf_parts.specs.SideLaws.{predecessor_member, copies_are}
+use Rattle.bf_parts.specs.CoverLaws.{split_sum, given_by}
+use Rattle.bf_parts.specs.SideLaws.{predecessor_member, copies_are, holder_before}
 use Rattle.bf_parts.specs.Sides.{has_items, is_given, regained, saved_of}
-
--- a home whose buddy a rank is, is its predecessor
-pub before : (shift : ℕ) (homes : List ℕ) (rank home : ℕ) → IsStrictlyIncreasing homes → is_member homes home ≡ true → (rank == home) ≡ false
-    → is_holder homes shift home rank ≡ true → predecessor_of homes rank shift ≡ home
-before shift homes rank home up is_home other holds = at (home == rank) (eqb_swap home rank ∙ other) holds
-  where
-    at : (b : Bool) → b ≡ false → (b || (buddy_of homes home shift == rank)) ≡ true → predecessor_of homes rank shift ≡ home
-    at true same found = absurd (cc)
-    at false _ buddy = ap (λ r. predecessor_of homes r shift) (sym (eqb-true (buddy_of homes home shift) rank buddy)) ∙ predecessor_undoes homes home shift up is_home
 
 -- of a home's part its holders have its keys, each once, and no others
 pub saved_is : {I : Type 0} (key : I → ℕ) (count shift : ℕ) (homes : List ℕ) (home_of : ℕ → ℕ) (rank home : ℕ) (side : Side I) → IsStrictlyIncreasing homes → is_member homes rank ≡ true
@@ -39,44 +31,11 @@ saved_is key count shift homes home_of rank home side up is_in is_home holds is 
     at : (k : ℕ) (b : Bool) → (rank == home) ≡ b → held key (cond b side.own (cond (side.source == home) side.other [])) k ≡ once (nat_lt k count && (home_of k == home))
     at k true same = is.own.each k ∙ ap (λ r. once (nat_lt k count && (home_of k == r))) (eqb-true rank home same)
     at k false other =
-        let its : predecessor_of homes rank shift ≡ home = before shift homes rank home up is_home other holds in
+        let its : predecessor_of homes rank shift ≡ home = holder_before shift homes rank home up is_home other holds in
         let source : (side.source == home) ≡ true = eq-eqb side.source home (is.source ∙ its) in
         let are : AreOf key count home_of (predecessor_of homes rank shift) side.other =
         copies_are key count shift homes home_of rank side.other up is_in (apart other its) is.other in
         rw source (are.each k ∙ ap (λ r. once (nat_lt k count && (home_of k == r))) its)
-
--- the sum over the members that pass a test, of a sum of two
-pub split_sum : (test : ℕ → Bool) (f g h : ℕ → ℕ) (members : List ℕ) → ((member : ℕ) → cond (test member) (f member) 0 ≡ g member + h member)
-    → sum_by f (filter test members) ≡ sum_by g members + sum_by h members
-split_sum test f g h [] split = refl
-split_sum test f g h (member ∷ members) split =
-    at (test member) (split member) (split_sum test f g h members split)
-    ∙ ap (λ n. n + (h member + sum_by h members)) (sym (sum_by-cons g member members))
-    ∙ ap (λ n. sum_by g (member ∷ members) + n) (sym (sum_by-cons h member members))
-  where
-    at : (b : Bool) → cond b (f member) 0 ≡ g member + h member → sum_by f (filter test members) ≡ sum_by g members + sum_by h members
-        → sum_by f (cond b (member ∷ filter test members) (filter test members)) ≡ (g member + sum_by g members) + (h member + sum_by h members)
-    at true here later = sum_by-cons f member (filter test members) ∙ omega arith
-    at false here later = omega arith
-
--- a part without an item counts nothing
-empty_or_some : {I : Type 0} (test : I → Bool) (items : List I) → cond (has_items items) (count_by test items) 0 ≡ count_by test items
-empty_or_some test [] = refl
-empty_or_some test (item ∷ items) =
-    let some : has_items (item ∷ items) ≡ true = not_zero _ in
-    rw some refl
-
--- by whether a home is the rank, is its source, and whether the source lives
-pub given_by : {I : Type 0} (test : I → Bool) (own other : List I) (a c l : Bool) → (a ≡ true → c ≡ true → l ≡ true)
-    → cond ((a && has_items own) || (c && (has_items other && not l))) (count_by test (cond a own (cond c other []))) 0
-    ≡ cond a (count_by test own) 0 + cond c (cond l 0 (count_by test other)) 0
-given_by test own other true true true lives = ap (λ b. cond (has_items own || b) (count_by test own) 0) (and-false (has_items other))
-    ∙ ap (λ b. cond b (count_by test own) 0) (or-false (has_items own)) ∙ empty_or_some test own ∙ omega arith
-given_by test own other true true false lives = absurd (let e : false ≡ true = lives refl refl in cc)
-given_by test own other true false l lives = ap (λ b. cond b (count_by test own) 0) (or-false (has_items own)) ∙ empty_or_some test own ∙ omega arith
-given_by test own other false true true lives = ap (λ b. cond b (count_by test other) 0) (and-false (has_items other)) ∙ omega arith
-given_by test own other false true false lives = ap (λ b. cond b (count_by test other) 0) (and-true (has_items other)) ∙ empty_or_some test other ∙ omega arith
-given_by test own other false false l lives = omega arith
 
 regained_by : {I : Type 0} (test : I → Bool) (own other : List I) (b : Bool) → count_by test (cond b own (own ++ other)) ≡ count_by test own + cond b 0 (count_by test other)
 regained_by test own other true = omega arith

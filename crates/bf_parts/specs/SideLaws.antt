@@ -1,6 +1,6 @@
 -- Whose copies a rank has, and what it goes on with after a restore.
 use Rattle.std.proofs.Common.{◌≡◌, ◌≢◌, ℕ, ◌+◌, ◌<◌, Bool, true, false, cond, List, [], ◌++◌, length, arith, refl, ap, sym, ◌∙◌}
-use Rattle.std.specs.Prelude.{◌==◌, ◌&&◌, not, nat_lt}
+use Rattle.std.specs.Prelude.{◌==◌, ◌&&◌, ◌||◌, not, nat_lt}
 use Rattle.std.specs.List.Sorted.{IsStrictlyIncreasing}
 use Rattle.std.proofs.lemmas.Bool.{eqb-true, eq-eqb, and_parts}
 use Rattle.std.proofs.lemmas.Bool.Decides.{nat_tests}
@@ -11,7 +11,9 @@ use Rattle.bf_buddy.proofs.LawLemmas.{predecessor_undoes, buddy_undoes}
 use Rattle.bf_program.specs.Restores.{heir_of}
 use Rattle.bf_parts.specs.Counts.{held_none, held_append}
 use Rattle.bf_parts.specs.Shares.{held, once, AreOf, AreCopies}
-use Rattle.bf_parts.specs.Sides.{gives}
+use Rattle.bf_program.specs.Laws.{is_holder}
+use Rattle.bf_parts.specs.Bools.{eqb_swap}
+use Rattle.bf_parts.specs.Sides.{gives, source_of}
 
 pub predecessor_member : (members : List ℕ) (rank shift : ℕ) → IsStrictlyIncreasing members → is_member members rank ≡ true
     → is_member members (predecessor_of members rank shift) ≡ true
@@ -42,6 +44,20 @@ gives_is members shift from rank up is_in =
         let e : from ≡ predecessor_of members rank shift =
         sym (predecessor_undoes members from shift up parts.0) ∙ ap (λ r. predecessor_of members r shift) buddy in
         sym (eq-eqb from (predecessor_of members rank shift) e) ∙ other
+
+-- a member's source is its predecessor
+pub source_is : (members : List ℕ) (shift rank : ℕ) → is_member members rank ≡ true → source_of members shift rank ≡ predecessor_of members rank shift
+unfolding source_of
+source_is members shift rank is_in = rw is_in refl
+
+-- who is to hold another's part is its buddy, and that is its predecessor
+pub holder_before : (shift : ℕ) (homes : List ℕ) (rank home : ℕ) → IsStrictlyIncreasing homes → is_member homes home ≡ true → (rank == home) ≡ false
+    → is_holder homes shift home rank ≡ true → predecessor_of homes rank shift ≡ home
+holder_before shift homes rank home up is_home other holds = at (home == rank) (eqb_swap home rank ∙ other) holds
+  where
+    at : (b : Bool) → b ≡ false → (b || (buddy_of homes home shift == rank)) ≡ true → predecessor_of homes rank shift ≡ home
+    at true same found = absurd (cc)
+    at false _ buddy = ap (λ r. predecessor_of homes r shift) (sym (eqb-true (buddy_of homes home shift) rank buddy)) ∙ predecessor_undoes homes home shift up is_home
 
 no_one : (below a b : Bool) → (b ≡ true → a ≡ true) → once (below && (not a && b)) ≡ 0
 no_one false a b alike = refl

@@ -1,21 +1,55 @@
--- Which homes have an item, who holds it, and to whom a restore gives it: of any program whose sides are stocked by a test on homes.
-use Rattle.std.proofs.Common.{◌≡◌, ℕ, Bool, true, false, List, [], ◌∷◌, refl, ap, sym, ◌∙◌}
+-- Which homes have an item, who holds it, and to whom a restore gives it: of sides that are stocked by a test on homes.
+use Rattle.std.proofs.Common.{◌≡◌, ℕ, ◌<◌, Bool, true, false, cond, List, [], ◌∷◌, length, map, refl, ap, sym, ◌∙◌}
 use Rattle.std.proofs.Math.Bool.{or-true, or-false, and-true, and-false}
-use Rattle.std.specs.Prelude.{◌==◌, ◌||◌, ◌&&◌, not, filter}
-use Rattle.std.specs.List.{AllZip, list_any}
+use Rattle.std.specs.Prelude.{◌==◌, ◌||◌, ◌&&◌, not, filter, slice_index_or}
+use Rattle.std.specs.List.{list_any}
 use Rattle.std.specs.List.Sorted.{IsStrictlyIncreasing}
-use Rattle.std.proofs.lemmas.Bool.{eqb-true, eqb-false, eq-eqb, and_parts}
-use Rattle.bf_buddy.specs.Members.{is_member}
-use Rattle.bf_buddy.specs.Buddy.{buddy_of, predecessor_of}
+use Rattle.std.proofs.lemmas.Bool.{eqb-true, eqb-false, eq-eqb, and_parts, or_right}
+use Rattle.std.proofs.lemmas.List.Folds.{list_any_at}
 use Rattle.bf_buddy.proofs.LawLemmas.{predecessor_undoes}
+use Rattle.bf_buddy.proofs.MemberLemmas.{member_head, member_tail, member_filter, filter_members}
+use Rattle.bf_buddy.specs.Buddy.{buddy_of, predecessor_of}
+use Rattle.bf_buddy.specs.Members.{is_member}
 use Rattle.bf_program.specs.Restores.{heir_of}
 use Rattle.bf_parts.specs.declared.side.Side.{Side}
-use Rattle.bf_parts.specs.Bools.{iff_same, eqb_swap}
-use Rattle.bf_parts.specs.Sides.{has_items, is_given}
-use Rattle.bf_parts.specs.Seats.{seat_of, seat_found, member_filter}
-use Rattle.bf_parts.specs.FillLaws.{any_seat, seat_any, filters_same, none_pass}
+use Rattle.bf_parts.specs.Bools.{iff_same, eqb_swap, not_zero}
+use Rattle.bf_parts.specs.Leaves.{Leaves, part_of, is_filled, side_at}
 use Rattle.bf_parts.specs.RestoreLaws.{heir_is}
-use Rattle.bf_parts.specs.Views.{View, holds_part, stored_of, IsStocked}
+use Rattle.bf_parts.specs.Sides.{has_items, is_given}
+use Rattle.bf_parts.specs.Views.{View, holds_part, homes_of, stored_of, IsStocked, IsHeld}
+
+-- a part has items where its rank is filled
+items_by : {K I : Type 0} (f : K → I) (test : K → Bool) (keys : List K) → has_items (map f (filter test keys)) ≡ list_any test keys
+items_by f test [] = refl
+items_by f test (key ∷ keys) = at (test key) (items_by f test keys)
+  where
+    at : (b : Bool) → has_items (map f (filter test keys)) ≡ list_any test keys → has_items (map f (cond b (key ∷ filter test keys) (filter test keys))) ≡ (b || list_any test keys)
+    at true later = not_zero (length (map f (filter test keys)))
+    at false later = later
+
+pub part_filled : {K I : Type 0} (leaves : Leaves K I) (owner : K → ℕ) (rank : ℕ) → has_items (part_of leaves owner rank) ≡ is_filled leaves owner rank
+unfolding part_of is_filled
+part_filled leaves owner rank = items_by (leaves.item owner) (λ key. owner key == rank) leaves.keys
+
+-- an owner of a leaf is filled
+pub owner_filled : {K I : Type 0} (leaves : Leaves K I) (owner : K → ℕ) (k : ℕ) (d : K) → k < length leaves.keys → is_filled leaves owner (owner (slice_index_or leaves.keys k d)) ≡ true
+unfolding is_filled
+owner_filled leaves owner k d within =
+    list_any_at (λ key. owner key == owner (slice_index_or leaves.keys k d)) leaves.keys k d within (eq-eqb (owner (slice_index_or leaves.keys k d)) (owner (slice_index_or leaves.keys k d)) refl)
+
+-- a rank's side of a snapshot is stocked where leaves have homes
+pub side_stocked : {K I : Type 0} (time : ℕ) (homes : List ℕ) (shift : ℕ) (leaves : Leaves K I) (home_of : K → ℕ) (rank : ℕ)
+    → IsStocked (is_filled leaves home_of) homes shift rank (side_at time homes shift leaves home_of rank)
+side_stocked {I = I} time homes shift leaves home_of rank = record {
+  same = refl;
+  source = refl;
+  own = part_filled leaves home_of rank;
+  other = at (predecessor_of homes rank shift == rank);
+}
+  where
+    at : (b : Bool) → has_items (cond {A = List I} b [] (part_of leaves home_of (predecessor_of homes rank shift))) ≡ (not b && is_filled leaves home_of (predecessor_of homes rank shift))
+    at true = refl
+    at false = part_filled leaves home_of (predecessor_of homes rank shift)
 
 -- by whether a home is the rank, its predecessor is the home, its predecessor is the rank, the home is filled, and own and copied items are there
 part_by : (a c r f own other : Bool) → (a ≡ true → own ≡ f) → (c ≡ true → other ≡ (not r && f)) → (a ≡ true → c ≡ true → r ≡ true) → (a ≡ false → c ≡ true → r ≡ false)
@@ -90,58 +124,72 @@ module _ {I : Type 0} (filled : ℕ → Bool) (homes : List ℕ) (shift rank : �
       at true home_in = given_is live home up is_home lives home_in
       at false outside = refl
 
--- members are among the homes, and no filled home's part is lost
-pub record IsHeld (filled : ℕ → Bool) (shift : ℕ) (homes members : List ℕ) : Type 0 where
-  pub homes_rise : IsStrictlyIncreasing homes
-  pub members_rise : IsStrictlyIncreasing members
-  pub among : (rank : ℕ) → is_member members rank ≡ true → is_member homes rank ≡ true
-  pub safe : (home : ℕ) → is_member homes home ≡ true → filled home ≡ true → (is_member members home || is_member members (buddy_of homes home shift)) ≡ true
+-- a test that a member passes, of what is told of members
+any_from : {L : Type 0} (test : L → Bool) (at : ℕ → L) (members : List ℕ) (rank : ℕ) → is_member members rank ≡ true → test (at rank) ≡ true → list_any test (map at members) ≡ true
+any_from test at [] rank is_in passes = absurd (cc)
+any_from test at (member ∷ members) rank is_in passes = by (λ later. any_from test at members rank later passes) (member == rank) refl is_in
+  where
+    by : (is_member members rank ≡ true → list_any test (map at members) ≡ true) → (b : Bool) → (member == rank) ≡ b → (b || is_member members rank) ≡ true
+        → (test (at member) || list_any test (map at members)) ≡ true
+    by later true same here = ap (λ r. test (at r) || list_any test (map at members)) (eqb-true member rank same) ∙ ap (λ b. b || list_any test (map at members)) passes
+    by later false other there = or_right (test (at member)) (list_any test (map at members)) (later there)
 
--- what is known of a member's local
-abbrev pub IsSeat : {L I : Type 0} → (look : L → View I) → (filled : ℕ → Bool) → (shift : ℕ) → (homes members : List ℕ) → (rank : ℕ) → L → Type 0
-IsSeat look filled shift homes members rank local = (is_member members rank ≡ true) × ((look local).rank ≡ rank) × IsStocked filled homes shift rank (look local).active
+any_told : {L : Type 0} (test : L → Bool) (at : ℕ → L) (members : List ℕ) → list_any test (map at members) ≡ true → (rank : ℕ) × ((is_member members rank ≡ true) × (test (at rank) ≡ true))
+any_told test at [] some = absurd (cc)
+any_told test at (member ∷ members) some = by (any_told test at members) (test (at member)) refl some
+  where
+    by : (list_any test (map at members) ≡ true → (rank : ℕ) × ((is_member members rank ≡ true) × (test (at rank) ≡ true))) → (b : Bool) → test (at member) ≡ b
+        → (b || list_any test (map at members)) ≡ true → (rank : ℕ) × ((is_member (member ∷ members) rank ≡ true) × (test (at rank) ≡ true))
+    by later true passes here = (member, (member_head member members, passes))
+    by later false fails there = let found = later there in (found.0, (member_tail member found.0 members found.1.0, found.1.1))
 
-module _ {L I : Type 0} (look : L → View I) (filled : ℕ → Bool) (shift : ℕ) (homes members : List ℕ) (held : IsHeld filled shift homes members) where
-  seat_holds : (rank home : ℕ) (local : L) → IsSeat look filled shift homes members rank local
-      → holds_part home (look local) ≡ ((rank == home || predecessor_of homes rank shift == home) && filled home)
-  seat_holds rank home local seat =
-      ap (λ r. (r == home && has_items (look local).active.own) || ((look local).active.source == home && has_items (look local).active.other)) seat.1
-      ∙ holds_is filled homes shift rank (look local).active seat.2 home
+-- members whose ranks and sides of the agreed snapshot are told
+module _ {L I : Type 0} (look : L → View I) (filled : ℕ → Bool) (shift : ℕ) (homes members : List ℕ) (held : IsHeld filled shift homes members) (at : ℕ → L)
+    (its : (rank : ℕ) → is_member members rank ≡ true → (look (at rank)).rank ≡ rank) (stocked : (rank : ℕ) → is_member members rank ≡ true → IsStocked filled homes shift rank (look (at rank)).active) where
+  abbrev holds : (home : ℕ) → L → Bool
+  holds home local = holds_part home (look local)
 
-  found_at : (locals : List L) (rank home : ℕ) → AllZip (IsSeat look filled shift homes members) members locals → is_member members rank ≡ true
-      → (rank == home || predecessor_of homes rank shift == home) ≡ true → filled home ≡ true → list_any (λ local. holds_part home (look local)) locals ≡ true
-  found_at locals rank home each is_in one full =
-      let found = seat_found (IsSeat look filled shift homes members) members locals rank each is_in in
-      let seat = seat_of (IsSeat look filled shift homes members) members locals rank found.0 each found.1 in
-      any_seat (λ local. holds_part home (look local)) members locals rank found.0 found.1 (seat_holds rank home found.0 seat ∙ rw (one, full) refl)
+  holds_at : (rank home : ℕ) → is_member members rank ≡ true → holds home (at rank) ≡ ((rank == home || predecessor_of homes rank shift == home) && filled home)
+  holds_at rank home is_in =
+      ap (λ r. (r == home && has_items (look (at rank)).active.own) || ((look (at rank)).active.source == home && has_items (look (at rank)).active.other)) (its rank is_in)
+      ∙ holds_is filled homes shift rank (look (at rank)).active (stocked rank is_in) home
 
-  part_found : (locals : List L) (home : ℕ) → AllZip (IsSeat look filled shift homes members) members locals → is_member homes home ≡ true
-      → list_any (λ local. holds_part home (look local)) locals ≡ filled home
-  part_found locals home each is_home = iff_same (list_any (λ local. holds_part home (look local)) locals) (filled home)
+  found_at : (rank home : ℕ) → is_member members rank ≡ true → (rank == home || predecessor_of homes rank shift == home) ≡ true → filled home ≡ true
+      → list_any (holds home) (map at members) ≡ true
+  found_at rank home is_in one full = any_from (holds home) at members rank is_in (holds_at rank home is_in ∙ rw (one, full) refl)
+
+  -- a home's part is at a member where the home is filled
+  part_found : (home : ℕ) → is_member homes home ≡ true → list_any (holds home) (map at members) ≡ filled home
+  part_found home is_home = iff_same (list_any (holds home) (map at members)) (filled home)
       (λ some.
-      let one = seat_any (IsSeat look filled shift homes members) (λ local. holds_part home (look local)) members locals each some in
-      (and_parts (one.0 == home || predecessor_of homes one.0 shift == home) (filled home) (sym (seat_holds one.0 home one.1.0 one.1.1.0) ∙ one.1.1.1)).1)
-      (λ full. at full (is_member members home) refl (held.safe home is_home full))
+      let one = any_told (holds home) at members some in
+      (and_parts (one.0 == home || predecessor_of homes one.0 shift == home) (filled home) (sym (holds_at one.0 home one.1.0) ∙ one.1.1)).1)
+      (λ full. by full (is_member members home) refl (held.safe home is_home full))
     where
-      at : filled home ≡ true → (b : Bool) → is_member members home ≡ b → (b || is_member members (buddy_of homes home shift)) ≡ true → list_any (λ local. holds_part home (look local)) locals ≡ true
-      at full true lives safe = found_at locals home home each lives (let same : (home == home) ≡ true = eq-eqb home home refl in rw same refl) full
-      at full false dead buddy = found_at locals (buddy_of homes home shift) home each buddy
+      by : filled home ≡ true → (b : Bool) → is_member members home ≡ b → (b || is_member members (buddy_of homes home shift)) ≡ true → list_any (holds home) (map at members) ≡ true
+      by full true lives safe = found_at home home lives (let same : (home == home) ≡ true = eq-eqb home home refl in rw same refl) full
+      by full false dead buddy = found_at (buddy_of homes home shift) home buddy
           (let back : (predecessor_of homes (buddy_of homes home shift) shift == home) ≡ true =
           eq-eqb (predecessor_of homes (buddy_of homes home shift) shift) home (predecessor_undoes homes home shift held.homes_rise is_home) in
           rw back (or-true (buddy_of homes home shift == home))) full
 
--- the stored homes are those that are filled
-pub stored_is : {L I : Type 0} (look : L → View I) (filled : ℕ → Bool) (shift : ℕ) (homes members : List ℕ) (locals : List L) → IsHeld filled shift homes members
-    → AllZip (IsSeat look filled shift homes members) members locals → stored_of look locals ≡ filter filled homes
-unfolding stored_of
-stored_is look filled shift homes [] [] held each = sym (none_pass filled homes (λ home is_home. at home is_home (filled home) refl))
-  where
-    at : (home : ℕ) → is_member homes home ≡ true → (b : Bool) → filled home ≡ b → b ≡ false
-    at home is_home true full = absurd (let lost = held.safe home is_home full in cc)
-    at home is_home false empty = refl
-stored_is look filled shift homes [] (x ∷ locals) held each = absurd each
-stored_is look filled shift homes (member ∷ members) [] held each = absurd each
-stored_is look filled shift homes (member ∷ members) (x ∷ locals) held each =
-    ap (filter (λ home. list_any (λ local. holds_part home (look local)) (x ∷ locals))) each.0.2.same
-    ∙ filters_same (λ home. list_any (λ local. holds_part home (look local)) (x ∷ locals)) filled homes
-    (λ home is_home. part_found look filled shift homes (member ∷ members) held (x ∷ locals) home each is_home)
+  -- the stored homes are those that are filled
+  pub stored_is : stored_of look (map at members) ≡ filter filled homes
+  unfolding stored_of
+  stored_is = by members refl
+    where
+      nobody : (home : ℕ) → is_member homes home ≡ true → [] ≡ members → (b : Bool) → filled home ≡ b → b ≡ false
+      nobody home is_home none true full =
+          absurd (let e : (is_member [] home || is_member [] (buddy_of homes home shift)) ≡ true = ap (λ ms. is_member ms home || is_member ms (buddy_of homes home shift)) none ∙ held.safe home is_home full in cc)
+      nobody home is_home none false empty = refl
+
+      no_homes : (hs : List ℕ) → [] ≡ filter (λ home. false) hs
+      no_homes [] = refl
+      no_homes (h ∷ hs) = no_homes hs
+
+      by : (ms : List ℕ) → ms ≡ members → filter (λ home. list_any (holds home) (map at ms)) (homes_of look (map at ms)) ≡ filter filled homes
+      by [] none = no_homes homes ∙ sym (filter_members filled (λ home. false) homes (λ home is_home. nobody home is_home none (filled home) refl))
+      by (m ∷ ms) e =
+          ap (filter (λ home. list_any (holds home) (map at (m ∷ ms)))) (stocked m (ap (λ xs. is_member xs m) (sym e) ∙ member_head m ms)).same
+          ∙ filter_members (λ home. list_any (holds home) (map at (m ∷ ms))) filled homes
+          (λ home is_home. ap (λ xs. list_any (holds home) (map at xs)) e ∙ part_found home is_home)

@@ -5,8 +5,8 @@ use Rattle.std.specs.List.{count_by}
 use Rattle.std.proofs.lemmas.List.{map-append}
 use Rattle.std.proofs.lemmas.List.Elements.{All-nil, All-cons, All-head, All-tail}
 use Rattle.bf_buddy.specs.Members.{is_member}
-use Rattle.bf_parts.specs.Counts.{count_append, count_cons}
-use Rattle.bf_parts.specs.Shares.{once}
+use Rattle.bf_parts.specs.Counts.{once, count_append, count_cons}
+use Rattle.bf_parts.specs.CoverLaws.{count_mapped}
 use Rattle.bf_parts.specs.ChangeLaws.{heirs_filtered}
 use Rattle.bf_parts.specs.Leaves.{Leaves, AreAmong, part_of}
 
@@ -37,10 +37,6 @@ count_flat {K = K} test into before p (k ∷ ks) same =
         count_append test (into k) (flat_map into (filter p ks)) ∙ ap (λ n. n + count_by test (flat_map into (filter p ks))) here ∙ ap (λ n. once (before k) + n) later
         ∙ sym (count_cons before k (filter p ks))
     at false here later = later
-
-count_map : {K X : Type 0} (test : X → Bool) (item : K → X) (ks : List K) → count_by test (map item ks) ≡ count_by (λ k. test (item k)) ks
-count_map test item [] = refl
-count_map test item (k ∷ ks) = count_cons test (item k) (map item ks) ∙ ap (λ n. once (test (item k)) + n) (count_map test item ks) ∙ sym (count_cons (λ k. test (item k)) k ks)
 
 all_heirs : {K J : Type 0} (P : K → Type 0) (Q : J → Type 0) (R : K → J → Type 0) (heirs : K → List J) → ((k : K) (j : J) → P k → R k j → Q j) → (ks : List K) → All P ks
     → All (λ k. All (R k) (heirs k)) ks → All Q (flat_map heirs ks)
@@ -81,7 +77,7 @@ module _ {K I : Type 0} (now next : Leaves K I) (heirs : K → List K) (keys_are
       ap (λ (js : List K). count_by test (map (next.item later) js)) (ap (filter (λ j. later j == rank)) keys_are ∙ heirs_filtered heirs owner later rank now.keys inherit)
       ∙ ap (count_by test) (map_flat (next.item later) heirs (filter (λ k. owner k == rank) now.keys))
       ∙ count_flat test (λ k. map (next.item later) (heirs k)) (λ k. test (now.item owner k)) (λ k. owner k == rank) now.keys same
-      ∙ sym (count_map test (now.item owner) (filter (λ k. owner k == rank) now.keys))
+      ∙ sym (count_mapped (now.item owner) test (λ k. test (now.item owner k)) (λ k. refl) (filter (λ k. owner k == rank) now.keys))
 
 -- leaves that join, where all that join into one are at its owner
 module _ {K I : Type 0} (now next : Leaves K I) (joining : K → List K) (keys_are : now.keys ≡ flat_map joining next.keys) (owner later : K → ℕ)
@@ -96,6 +92,6 @@ module _ {K I : Type 0} (now next : Leaves K I) (joining : K → List K) (keys_a
       → count_by test (part_of next later rank) ≡ count_by test (part_of now owner rank)
   unfolding part_of
   join_weighs test same rank =
-      count_map test (next.item later) (filter (λ k. later k == rank) next.keys)
+      count_mapped (next.item later) test (λ k. test (next.item later k)) (λ k. refl) (filter (λ k. later k == rank) next.keys)
       ∙ sym (count_flat test (λ k. map (now.item owner) (joining k)) (λ k. test (next.item later k)) (λ k. later k == rank) next.keys same)
       ∙ ap (count_by test) (sym (join_part rank))

@@ -1,8 +1,10 @@
+pub mod ChainLemmas
 pub mod StartLemmas
-pub mod LawLemmas
-pub mod LeadLemmas
-pub mod StageLemmas
+pub mod StoredLemmas
+pub mod PieceLemmas
 pub mod SnapshotLemmas
 pub mod MoveLemmas
-pub mod LookLemmas
 pub mod HeirLemmas
+pub mod LookLemmas
+pub mod StageLemmas
+pub mod LeadLemmas

@@ -6,7 +6,7 @@ use Rattle.std.specs.List.{fold, count_by}
 use Rattle.std.specs.List.Sorted.{IsStrictlyIncreasing}
 use Rattle.std.proofs.lemmas.Bool.{eqb-true}
 use Rattle.std.proofs.lemmas.Bool.Decides.{nat_tests}
-use Rattle.std.proofs.lemmas.List.Elements.{All-head, All-tail}
+use Rattle.std.proofs.lemmas.List.Elements.{All-head, All-tail, filter_agree}
 use Rattle.std.proofs.lemmas.List.Kept.{AllPairs-from_increasing}
 use Rattle.std.proofs.lemmas.List.Sums.{fold-append}
 use Rattle.bf_buddy.specs.Members.{is_member}
@@ -20,7 +20,7 @@ use Rattle.bf_parts.specs.Merges.{merged}
 use Rattle.bf_parts.specs.MergeLaws.{Precedes, filter_alike, first_pairs, rest_pairs}
 use Rattle.bf_parts.specs.MoveLaws.{AreApart, gathered_is}
 use Rattle.bf_parts.specs.CoverLaws.{count_merged, count_mapped}
-use Rattle.bf_stages.specs.Leading.{LeadsBy, Weighs}
+use Rattle.bf_rounds.specs.Leading.{LeadsBy, Weighs}
 use Rattle.bf_stages.specs.Moves.{Hand, move_play, hand_of, goes, move_course, GoesToPeer}
 
 filter_mapped : {X Y : Type 0} (p : Y → Bool) (f : X → Y) (q : X → Bool) (xs : List X) → filter p (map f (filter q xs)) ≡ map f (filter (λ x. q x && p (f x)) xs)
@@ -43,10 +43,6 @@ settled {K = K} {X = X} f item item_after p (k ∷ ks) same =
         → map f (map item (cond b (k ∷ filter p ks) (filter p ks))) ≡ map item_after (cond b (k ∷ filter p ks) (filter p ks))
     at true here later = ap (λ (y : X). y ∷ map f (map item (filter p ks))) (here refl) ∙ ap (λ (ys : List X). item_after k ∷ ys) later
     at false here later = later
-
-same_filters : {X : Type 0} (p q : X → Bool) → ((x : X) → p x ≡ q x) → (xs : List X) → filter p xs ≡ filter q xs
-same_filters p q same [] = refl
-same_filters p q same (x ∷ xs) = ap (λ b. cond b (x ∷ filter p xs) (filter p xs)) (same x) ∙ ap (λ rest. cond (q x) (x ∷ rest) rest) (same_filters p q same xs)
 
 member_more : (done : List ℕ) (x y : ℕ) → is_member (done ++ x ∷ []) y ≡ (is_member done y || x == y)
 member_more [] x y = at (x == y)
@@ -179,7 +175,7 @@ module _ {K N I : Type 0} (first : I → I → Bool) (keys : List K) (item item_
     others = peers_others members sees peers seen_both;
     symmetric = peers_see members sees peers seen_both;
     begins = λ rank member. ap (λ (xs : List K). record { rank = rank; known = known rank; items = map item xs })
-        (same_filters (λ k. old k == rank && not (is_member [] (new k))) (λ k. old k == rank) (λ k. and-true (old k == rank)) keys);
+        (filter_agree (λ k. old k == rank && not (is_member [] (new k))) (λ k. old k == rank) (λ k. and-true (old k == rank)) keys);
     out = λ rank to done rest member is.
         let fresh : is_member done to ≡ false = front_apart done rest to (subst AreApart is (rising_apart (peers rank) (peers_rise members sees peers up seen_both rank member))) in
         let left : filter (λ i. not (going rank (known rank) i == to)) (map item (filter (λ k. old k == rank && not (is_member done (new k))) keys))

@@ -1,15 +1,14 @@
 -- The snapshot round fills the spare sides.
 use Rattle.std.proofs.Common.{◌≡◌, ◌≢◌, ℕ, Bool, true, false, cond, List, [], ◌∷◌, ◌++◌, ◌+◌, arith, refl, ap, sym, ◌∙◌}
-use Rattle.std.specs.Prelude.{◌==◌, not, filter, Option, Some, None}
+use Rattle.std.specs.Prelude.{◌==◌, ◌&&◌, ◌||◌, not, filter, Option, Some, None}
 use Rattle.std.specs.List.{fold, count_by}
 use Rattle.std.specs.List.Sorted.{IsStrictlyIncreasing}
 use Rattle.std.proofs.lemmas.Bool.{eqb-true, eqb-false, eq-eqb}
 use Rattle.bf_buddy.specs.Members.{is_member}
 use Rattle.bf_buddy.specs.Buddy.{predecessor_of}
 use Rattle.bf_program.specs.declared.epoch.Epoch.{Epoch}
-use Rattle.bf_parts.specs.Hearing.{HearsOne, nothing_heard, one_heard, source_is}
-use Rattle.bf_parts.specs.Seats.{member_filter}
-use Rattle.bf_parts.specs.SideLaws.{gives_is, predecessor_member}
+use Rattle.bf_buddy.proofs.MemberLemmas.{member_filter}
+use Rattle.bf_parts.specs.SideLaws.{gives_is, predecessor_member, source_is}
 use Rattle.bf_parts.specs.Sides.{gives, source_of}
 use Rattle.bf_rounds.specs.Gathering.{gathered, AreMutual, Gathers}
 use Rattle.bf_parts.specs.Leaves.{Leaves, part_of}
@@ -17,9 +16,10 @@ use Rattle.bf_parts.specs.Views.{View}
 use Rattle.bf_parts.specs.Spreads.{Trio, view_at}
 use Rattle.bf_parts.specs.Bools.{eqb_swap}
 use Rattle.bf_parts.specs.SnapshotLaws.{paired_apart, paired_both, paired_holders}
-use Rattle.bf_stages.specs.Leading.{LeadsBy, as_delivery, Weighs}
 use Rattle.bf_stages.specs.Snapshots.{IsSight, sees_paired, sees_others, heard_part, given_part, snapshot_play, parts_in, holding_part, snapshot_course}
-use Rattle.bf_stages.proofs.LeadLemmas.{gathers_by}
+use Rattle.bf_rounds.proofs.LeadLemmas.{gathers_by}
+use Rattle.bf_rounds.specs.Delivering.{as_delivery}
+use Rattle.bf_rounds.specs.Leading.{LeadsBy, Weighs}
 
 last_kept : {A : Type 0} (was : A) (xs : List A) → fold (λ was part. part) was (xs ++ []) ≡ fold (λ was part. part) was xs
 last_kept was [] = refl
@@ -28,6 +28,16 @@ last_kept was (x ∷ xs) = last_kept x xs
 last_new : {A : Type 0} (was x : A) (xs : List A) → fold (λ was part. part) was (xs ++ x ∷ []) ≡ x
 last_new was x [] = refl
 last_new was x (y ∷ xs) = last_new y x xs
+
+-- of parts that are taken from one peer alone, where it is heard, and no other's
+one_heard : {A : Type 0} (part : ℕ → A) (source : ℕ) (was : A) (peers : List ℕ) → fold (λ was peer. cond (peer == source) (part peer) was) was peers ≡ cond (is_member peers source) (part source) was
+one_heard part source was [] = refl
+one_heard {A = A} part source was (peer ∷ peers) = one_heard part source (cond (peer == source) (part peer) was) peers ∙ at (peer == source) (is_member peers source) refl
+  where
+    at : (b c : Bool) → (peer == source) ≡ b → cond {A = A} c (part source) (cond b (part peer) was) ≡ cond (b || c) (part source) was
+    at true true same = refl
+    at true false same = ap part (eqb-true peer source same)
+    at false c other = refl
 
 module _ {K I : Type 0} (sees : (members : List ℕ) → (rank other : ℕ) → Bool) (shift : ℕ) (epoch : Epoch) (sight : IsSight shift sees epoch.members) (leaves : Trio K I) (same : leaves.now ≡ leaves.new) (owner home_of : K → ℕ) (up : IsStrictlyIncreasing epoch.members) where
   abbrev members : List ℕ
@@ -51,32 +61,31 @@ module _ {K I : Type 0} (sees : (members : List ℕ) → (rank other : ℕ) → 
       at later true = later (part p)
       at later false = later was
 
-  one : (rank : ℕ) → is_member members rank ≡ true → HearsOne (λ (x : List I). Unit {0}) (hear rank) (predecessor_of members rank shift) (λ x. part (predecessor_of members rank shift))
-  one rank is_in = record {
-    keeps = λ x is. tt;
-    again = λ x. refl;
-    others = λ x peer is other. ap (λ b. cond b (part peer) x) (gives_is members shift peer rank up is_in ∙ other);
-    its = λ x peer is same. ap (λ b. cond b (part peer) x) (gives_is members shift peer rank up is_in ∙ same) ∙ ap part (eqb-true peer (predecessor_of members rank shift) same);
-  }
+  -- whom a rank hears of those whose buddy it is
+  source_seen : (rank : ℕ) → is_member members rank ≡ true → is_member (filter (sees members rank) members) (predecessor_of members rank shift) ≡ not (predecessor_of members rank shift == rank)
+  source_seen rank is_in = member_filter (sees members rank) members (predecessor_of members rank shift) ∙ at (predecessor_of members rank shift == rank) refl
+    where
+      source_in : is_member members (predecessor_of members rank shift) ≡ true
+      source_in = predecessor_member members rank shift up is_in
 
+      at : (b : Bool) → (predecessor_of members rank shift == rank) ≡ b → (is_member members (predecessor_of members rank shift) && sees members rank (predecessor_of members rank shift)) ≡ not b
+      at true lone = rw source_in (ap (sees members rank) (eqb-true (predecessor_of members rank shift) rank lone) ∙ sight.apart rank)
+      at false other = rw source_in (sight.holders (predecessor_of members rank shift) rank
+          (gives_is members shift (predecessor_of members rank shift) rank up is_in ∙ eq-eqb (predecessor_of members rank shift) (predecessor_of members rank shift) refl)
+          (eqb-false (predecessor_of members rank shift) rank other))
+
+  -- the part that a rank has heard
   all_heard : (rank : ℕ) → is_member members rank ≡ true
       → fold (hear rank) [] (filter (sees members rank) members) ≡ cond (predecessor_of members rank shift == rank) [] (part (predecessor_of members rank shift))
-  all_heard rank is_in = at (predecessor_of members rank shift == rank) refl
+  all_heard rank is_in =
+      ap (λ (f : List I → ℕ → List I). fold f [] (filter (sees members rank) members)) (λ i was peer. cond (gives_is members shift peer rank up is_in i) (part peer) was)
+      ∙ one_heard part (predecessor_of members rank shift) [] (filter (sees members rank) members)
+      ∙ ap (λ b. cond b (part (predecessor_of members rank shift)) []) (source_seen rank is_in)
+      ∙ turned (predecessor_of members rank shift == rank)
     where
-      at : (b : Bool) → (predecessor_of members rank shift == rank) ≡ b → fold (hear rank) [] (filter (sees members rank) members) ≡ cond b [] (part (predecessor_of members rank shift))
-      at true lone = nothing_heard (λ (x : List I). Unit {0}) (hear rank) (predecessor_of members rank shift) (λ x. part (predecessor_of members rank shift)) (one rank is_in) []
-          (filter (sees members rank) members) tt
-          (ap (is_member (filter (sees members rank) members)) (eqb-true (predecessor_of members rank shift) rank lone)
-          ∙ member_filter (sees members rank) members rank ∙ rw (is_in, sight.apart rank) refl)
-      at false other =
-          let source : is_member members (predecessor_of members rank shift) ≡ true = predecessor_member members rank shift up is_in in
-          let giver : gives members shift (predecessor_of members rank shift) rank ≡ true =
-          gives_is members shift (predecessor_of members rank shift) rank up is_in ∙ eq-eqb (predecessor_of members rank shift) (predecessor_of members rank shift) refl in
-          let seen : sees members rank (predecessor_of members rank shift) ≡ true =
-          sight.holders (predecessor_of members rank shift) rank giver (eqb-false (predecessor_of members rank shift) rank other) in
-          one_heard (λ (x : List I). Unit {0}) (hear rank) (predecessor_of members rank shift) (λ x. part (predecessor_of members rank shift)) (one rank is_in) []
-          (filter (sees members rank) members) tt
-          (member_filter (sees members rank) members (predecessor_of members rank shift) ∙ rw (source, seen) refl)
+      turned : (b : Bool) → cond (not b) (part (predecessor_of members rank shift)) [] ≡ cond b [] (part (predecessor_of members rank shift))
+      turned true = refl
+      turned false = refl
 
   spare_from : (source : ℕ) → Leaves K I → (other : List I) → (rank : ℕ) → View I
   spare_from source new other rank = record (view_at shift epoch false leaves owner home_of rank) {

@@ -1,6 +1,5 @@
-pub mod Scenes
-pub mod Supplies
-pub mod Leading
-pub mod Stages
 pub mod Snapshots
 pub mod Moves
+pub mod Stages
+pub mod Scenes
+pub mod Leading

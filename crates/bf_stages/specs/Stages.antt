@@ -1,4 +1,4 @@
--- Programs whose rounds are stages that are made from the epoch, each of a kind.
+-- Programs whose rounds are stages that are made from the epoch, and whose locals are told by who owns what: what such a program supplies for all of its laws.
 use Rattle.std.specs.Prelude.{ℕ, ◌≡◌, ◌+◌, ◌<◌, ◌≤◌, Bool, true, false, length, List, [], ◌∷◌, ◌++◌, map, filter, slice_index_or, All, IsTrue, Option}
 use Rattle.std.specs.List.{range_with_len, count_by}
 use Rattle.bf_buddy.specs.Members.{is_member}
@@ -7,26 +7,34 @@ use Rattle.bf_program.specs.Epochs.{first_epoch, epoch_after_commit}
 use Rattle.bf_program.specs.Laws.{times}
 use Rattle.bf_program.specs.Meanings.{Meanings, Regions}
 use Rattle.bf_program.specs.Restores.{restored_epoch}
-use Rattle.bf_parts.specs.declared.side.Side.{Side}
-use Rattle.bf_parts.specs.Sides.{bare, has_items, is_given, saved_of}
+use Rattle.bf_rounds.specs.Canonical.{Telling}
 use Rattle.bf_rounds.specs.Courses.{Course}
-use Rattle.bf_rounds.specs.Delivering.{Delivery, PlaysDelivery}
+use Rattle.bf_rounds.specs.Delivering.{Delivery, as_delivery, PlaysDelivery}
+use Rattle.bf_rounds.specs.Leading.{LeadsBy, IsPartOf, alone, lifted, Lens, through, Weighs, Conserves}
+use Rattle.bf_parts.specs.declared.side.Side.{Side}
 use Rattle.bf_parts.specs.Leaves.{Kind, Leaves, AreLeaves, AreAmong, part_of, is_filled, side_at}
-use Rattle.bf_parts.specs.Views.{View, stored_of}
-use Rattle.bf_parts.specs.Spreads.{view_at, kept_view, restored_view}
-use Rattle.bf_parts.specs.StockLaws.{IsHeld}
-use Rattle.bf_stages.specs.Scenes.{World, Scene, Conserves}
-use Rattle.bf_stages.specs.Leading.{LeadsBy, IsPartOf, as_delivery, alone, lifted, Lens, through, Weighs}
+use Rattle.bf_parts.specs.Sides.{bare, has_items, is_given, saved_of}
+use Rattle.bf_parts.specs.Spreads.{Trio, view_at, kept_view, restored_view}
+use Rattle.bf_parts.specs.Views.{View, stored_of, IsHeld}
 use Rattle.bf_stages.specs.Snapshots.{IsSight, snapshot_play, snapshot_course}
 
--- over setups, keys, items, locals, what a local has beside its view, messages, and stages
+-- all that can differ between two good vectors: who has what of the agreed snapshot, and who owns what
+pub record World (K : Type 0) : Type 0 where
+  pub home : K → ℕ
+  pub owner : K → ℕ
+
+-- how a program's locals are told and its rounds are staged: over setups, keys, items, locals, what a local has beside its view, messages, and stages
 pub record Staging (S K I L N M G : Type 0) : Type 1 where
+  -- what is seen of a local, and the local of what is seen and what else it has
   pub look : L → View I
   pub put : View I → N → L
+  -- the leaves of the snapshot of each time
   pub at : S → (time : ℕ) → Leaves K I
+  -- the epochs that come up
   pub Runs : S → Epoch → Type 0
   -- what else holds of the owners at the beginning of a stage
   pub Also : S → Epoch → G → (owner : K → ℕ) → Type 0
+  -- what a rank's local has beside its view at the beginning of an epoch
   pub fresh : S → Epoch → (rank : ℕ) → N
   -- the stages of an epoch, and what stands behind them; whether the new snapshot is made before a stage
   pub stages : S → Epoch → List G
@@ -41,28 +49,20 @@ pub record Staging (S K I L N M G : Type 0) : Type 1 where
   pub moved : S → Epoch → G → (owner : K → ℕ) → K → ℕ
   pub course : S → Epoch → G → World K → Course L M
 
+-- the stage of a round; behind the last round there is what stands behind all stages
 abbrev pub stage_at : {S K I L N M G : Type 0} → Staging S K I L N M G → S → Epoch → (round : ℕ) → G
 stage_at st setup epoch round = slice_index_or (st.stages setup epoch) round st.last
 
-abbrev pub scene_of : {S K I L N M G : Type 0} → Staging S K I L N M G → Scene S K I L N M
-scene_of st = record {
-  look = st.look;
-  put = st.put;
-  now = λ setup epoch round. st.leaves setup epoch (stage_at st setup epoch round);
-  at = st.at;
-  Runs = st.Runs;
-  Also = λ setup epoch round. st.Also setup epoch (stage_at st setup epoch round);
-  work = λ setup epoch round. st.work setup epoch (stage_at st setup epoch round);
-  fresh = st.fresh;
-  moved = λ setup epoch round. st.moved setup epoch (stage_at st setup epoch round);
-  course = λ setup epoch round. st.course setup epoch (stage_at st setup epoch round);
-}
+-- the staging itself, under its former name
+abbrev pub scene_of : {S K I L N M G : Type 0} → Staging S K I L N M G → Staging S K I L N M G
+scene_of st = st
 
--- each two stages that follow each other, the last followed by what stands behind all
+-- the first stage, or what stands behind all
 abbrev pub head_of : {G : Type 0} → List G → G → G
 head_of [] last = last
 head_of (x ∷ xs) last = x
 
+-- of each two stages that follow each other, the last followed by what stands behind all
 abbrev pub Chain : {G : Type 0} → (R : G → G → Type 0) → List G → (last : G) → Type 0
 Chain R [] last = Unit {0}
 Chain R (x ∷ xs) last = R x (head_of xs last) × Chain R xs last
@@ -76,17 +76,23 @@ module _ {S K I L N M T G : Type 0} (m : Meanings S L M T (Side I)) (st : Stagin
     pub made : st.made st.last ≡ true
 
   module _ (epoch : Epoch) (stage : G) where
-    abbrev pub view_of : World K → (rank : ℕ) → View I
-    view_of world rank =
-        view_at (m.shift setup) epoch (st.made stage) (record { now = st.leaves setup epoch stage; agreed = st.at setup epoch.time; new = st.at setup epoch.target }) world.owner world.home rank
+    -- the leaves of a stage, those of the agreed snapshot and those of the new one
+    abbrev pub trio_of : Trio K I
+    trio_of = record { now = st.leaves setup epoch stage; agreed = st.at setup epoch.time; new = st.at setup epoch.target }
 
-    -- a rank's local at the beginning of a stage
+    -- what is seen of a rank's local at the beginning of a stage
+    abbrev pub view_of : World K → (rank : ℕ) → View I
+    view_of world rank = view_at (m.shift setup) epoch (st.made stage) trio_of world.owner world.home rank
+
+    -- and the local
     abbrev pub local_of_stage : World K → (rank : ℕ) → L
     local_of_stage world rank = st.put (view_of world rank) (st.work setup epoch stage world.owner rank)
 
+    -- the world one stage later
     abbrev pub after_stage : World K → World K
     after_stage world = record world { owner = st.moved setup epoch stage world.owner }
 
+    -- a world at the beginning of a stage: the owners are members, and the agreed snapshot is at its holders
     pub record IsPlacedAt (world : World K) : Type 0 where
       pub runs : st.Runs setup epoch
       pub owned : AreAmong epoch.members (st.leaves setup epoch stage) world.owner
@@ -94,16 +100,26 @@ module _ {S K I L N M T G : Type 0} (m : Meanings S L M T (Side I)) (st : Stagin
       pub held : IsHeld (is_filled (st.at setup epoch.time) world.home) (m.shift setup) epoch.homes epoch.members
       pub also : st.Also setup epoch stage world.owner
 
+-- the good vectors of such a program: at each round they are told by the world at its stage
+abbrev pub telling_of : {S K I L N M T G : Type 0} → Meanings S L M T (Side I) → Staging S K I L N M G → Telling S L M (World K)
+telling_of m st = record {
+  Fits = λ setup epoch round. IsPlacedAt m st setup epoch (stage_at st setup epoch round);
+  local_at = λ setup epoch round. local_of_stage m st setup epoch (stage_at st setup epoch round);
+  next = λ setup epoch round. after_stage m st setup epoch (stage_at st setup epoch round);
+  course = λ setup epoch round. st.course setup epoch (stage_at st setup epoch round);
+}
+
+module _ {S K I L N M T G : Type 0} (m : Meanings S L M T (Side I)) (st : Staging S K I L N M G) (setup : S) where
   module _ {B U : Type 0} (regions : Regions S L M T (Side I) B U) where
     -- a stage leads to another
     pub record Follows (epoch : Epoch) (stage next : G) : Type 0 where
-      pub leads : (world : World K) → IsPlacedAt epoch stage world
-          → LeadsBy (st.play setup epoch stage) epoch.members (st.course setup epoch stage world) (local_of_stage epoch stage world) (local_of_stage epoch next (after_stage epoch stage world))
-      pub owned : (world : World K) → IsPlacedAt epoch stage world → AreAmong epoch.members (st.leaves setup epoch next) (st.moved setup epoch stage world.owner)
-      pub also : (world : World K) → IsPlacedAt epoch stage world → st.Also setup epoch next (st.moved setup epoch stage world.owner)
-      pub conserves : (world : World K) (unit : U) → IsPlacedAt epoch stage world
+      pub leads : (world : World K) → IsPlacedAt m st setup epoch stage world
+          → LeadsBy (st.play setup epoch stage) epoch.members (st.course setup epoch stage world) (local_of_stage m st setup epoch stage world) (local_of_stage m st setup epoch next (after_stage m st setup epoch stage world))
+      pub owned : (world : World K) → IsPlacedAt m st setup epoch stage world → AreAmong epoch.members (st.leaves setup epoch next) (st.moved setup epoch stage world.owner)
+      pub also : (world : World K) → IsPlacedAt m st setup epoch stage world → st.Also setup epoch next (st.moved setup epoch stage world.owner)
+      pub conserves : (world : World K) (unit : U) → IsPlacedAt m st setup epoch stage world
           → Conserves (λ local. times regions (regions.of_local local) unit) (λ msg. times regions (regions.of_message msg) unit) epoch.members
-          (st.course setup epoch stage world) (local_of_stage epoch next (after_stage epoch stage world))
+          (st.course setup epoch stage world) (local_of_stage m st setup epoch next (after_stage m st setup epoch stage world))
 
     abbrev pub HasStages : Type 0
     HasStages = (epoch : Epoch) → st.Runs setup epoch → Chain (Follows epoch) (st.stages setup epoch) st.last
@@ -113,13 +129,13 @@ module _ {S K I L N M T G : Type 0} (m : Meanings S L M T (Side I)) (st : Stagin
         (before after : World K → ℕ → P) (weigh : U → P → ℕ) (weigh_word : U → W → ℕ) (base : U → World K → ℕ → ℕ) : Type 0 where
       pub part : (world : World K) → IsPartOf play (st.play setup epoch stage) (embed world) (embed_after world) wrap
       pub course_is : (world : World K) → st.course setup epoch stage world ≡ lifted (embed world) wrap (course world)
-      pub before_is : (world : World K) (rank : ℕ) → IsPlacedAt epoch stage world → IsTrue (is_member epoch.members rank)
-          → embed world rank (before world rank) ≡ local_of_stage epoch stage world rank
-      pub after_is : (world : World K) (rank : ℕ) → IsPlacedAt epoch stage world → IsTrue (is_member epoch.members rank)
-          → embed_after world rank (after world rank) ≡ local_of_stage epoch next (after_stage epoch stage world) rank
-      pub leads : (world : World K) → IsPlacedAt epoch stage world → LeadsBy play epoch.members (course world) (before world) (after world)
-      pub owned : (world : World K) → IsPlacedAt epoch stage world → AreAmong epoch.members (st.leaves setup epoch next) (st.moved setup epoch stage world.owner)
-      pub also : (world : World K) → IsPlacedAt epoch stage world → st.Also setup epoch next (st.moved setup epoch stage world.owner)
+      pub before_is : (world : World K) (rank : ℕ) → IsPlacedAt m st setup epoch stage world → IsTrue (is_member epoch.members rank)
+          → embed world rank (before world rank) ≡ local_of_stage m st setup epoch stage world rank
+      pub after_is : (world : World K) (rank : ℕ) → IsPlacedAt m st setup epoch stage world → IsTrue (is_member epoch.members rank)
+          → embed_after world rank (after world rank) ≡ local_of_stage m st setup epoch next (after_stage m st setup epoch stage world) rank
+      pub leads : (world : World K) → IsPlacedAt m st setup epoch stage world → LeadsBy play epoch.members (course world) (before world) (after world)
+      pub owned : (world : World K) → IsPlacedAt m st setup epoch stage world → AreAmong epoch.members (st.leaves setup epoch next) (st.moved setup epoch stage world.owner)
+      pub also : (world : World K) → IsPlacedAt m st setup epoch stage world → st.Also setup epoch next (st.moved setup epoch stage world.owner)
       pub weighs : (unit : U) → Weighs (weigh unit) (weigh_word unit) play
       pub of_local : (unit : U) (world : World K) (rank : ℕ) (n : P) → times regions (regions.of_local (embed world rank n)) unit ≡ base unit world rank + weigh unit n
       pub of_after : (unit : U) (world : World K) (rank : ℕ) (n : P) → times regions (regions.of_local (embed_after world rank n)) unit ≡ base unit world rank + weigh unit n
@@ -127,15 +143,15 @@ module _ {S K I L N M T G : Type 0} (m : Meanings S L M T (Side I)) (st : Stagin
 
     -- a stage in which each rank is alone
     pub record IsAloneStage (epoch : Epoch) (stage next : G) (nothing : M) : Type 0 where
-      pub course_is : (world : World K) → st.course setup epoch stage world ≡ alone nothing (local_of_stage epoch stage world)
+      pub course_is : (world : World K) → st.course setup epoch stage world ≡ alone nothing (local_of_stage m st setup epoch stage world)
       pub peers : (local : L) → (st.play setup epoch stage).peers epoch.members local ≡ []
-      pub finish : (world : World K) (rank : ℕ) → IsPlacedAt epoch stage world → IsTrue (is_member epoch.members rank)
-          → (st.play setup epoch stage).finish (local_of_stage epoch stage world rank) ≡ local_of_stage epoch next (after_stage epoch stage world) rank
-      pub owned : (world : World K) → IsPlacedAt epoch stage world → AreAmong epoch.members (st.leaves setup epoch next) (st.moved setup epoch stage world.owner)
-      pub also : (world : World K) → IsPlacedAt epoch stage world → st.Also setup epoch next (st.moved setup epoch stage world.owner)
+      pub finish : (world : World K) (rank : ℕ) → IsPlacedAt m st setup epoch stage world → IsTrue (is_member epoch.members rank)
+          → (st.play setup epoch stage).finish (local_of_stage m st setup epoch stage world rank) ≡ local_of_stage m st setup epoch next (after_stage m st setup epoch stage world) rank
+      pub owned : (world : World K) → IsPlacedAt m st setup epoch stage world → AreAmong epoch.members (st.leaves setup epoch next) (st.moved setup epoch stage world.owner)
+      pub also : (world : World K) → IsPlacedAt m st setup epoch stage world → st.Also setup epoch next (st.moved setup epoch stage world.owner)
       pub light : (unit : U) → times regions (regions.of_message nothing) unit ≡ 0
-      pub same : (unit : U) (world : World K) (rank : ℕ) → IsPlacedAt epoch stage world → IsTrue (is_member epoch.members rank)
-          → times regions (regions.of_local (local_of_stage epoch next (after_stage epoch stage world) rank)) unit ≡ times regions (regions.of_local (local_of_stage epoch stage world rank)) unit
+      pub same : (unit : U) (world : World K) (rank : ℕ) → IsPlacedAt m st setup epoch stage world → IsTrue (is_member epoch.members rank)
+          → times regions (regions.of_local (local_of_stage m st setup epoch next (after_stage m st setup epoch stage world) rank)) unit ≡ times regions (regions.of_local (local_of_stage m st setup epoch stage world rank)) unit
 
     -- a stage in which the snapshot is made
     pub record IsSnapshotStage (sees : (members : List ℕ) → (rank other : ℕ) → Bool) (epoch : Epoch) (stage next : G) (lens : Lens L (View I) M (Option (List I))) : Type 0 where
@@ -145,14 +161,14 @@ module _ {S K I L N M T G : Type 0} (m : Meanings S L M T (Side I)) (st : Stagin
       pub given : (view now : View I) (work : N) → lens.give (st.put view work) now ≡ st.put now work
       pub read : (word : Option (List I)) → lens.unwrap (lens.wrap word) ≡ word
       pub course_is : (world : World K) → st.course setup epoch stage world ≡ lifted (λ rank view. st.put view (st.work setup epoch stage world.owner rank)) lens.wrap
-          (snapshot_course sees (m.shift setup) epoch (record { now = st.leaves setup epoch stage; agreed = st.at setup epoch.time; new = st.at setup epoch.target }) world.owner world.home)
+          (snapshot_course sees (m.shift setup) epoch (trio_of m st setup epoch stage) world.owner world.home)
       pub leaves : st.leaves setup epoch stage ≡ st.at setup epoch.target
       pub leaves_after : st.leaves setup epoch next ≡ st.at setup epoch.target
       pub unmade : st.made stage ≡ false
       pub made : st.made next ≡ true
       pub stays : (owner : K → ℕ) → st.moved setup epoch stage owner ≡ owner
       pub work : (owner : K → ℕ) (rank : ℕ) → st.work setup epoch next owner rank ≡ st.work setup epoch stage owner rank
-      pub also : (world : World K) → IsPlacedAt epoch stage world → st.Also setup epoch next world.owner
+      pub also : (world : World K) → IsPlacedAt m st setup epoch stage world → st.Also setup epoch next world.owner
       pub light : (word : Option (List I)) (unit : U) → times regions (regions.of_message (lens.wrap word)) unit ≡ 0
 
 -- a play leaves the side of the agreed snapshot
