@@ -1,5 +1,5 @@
 -- Items that come from several ranks, merged: the leaves of their new owner.
-use Rattle.std.proofs.Common.{◌≡◌, ℕ, Bool, true, false, cond, List, [], ◌∷◌, map, refl, ap, sym, ◌∙◌}
+use Rattle.std.proofs.Common.{◌≡◌, ℕ, Bool, true, false, List, [], ◌∷◌, map, refl, ap, sym, ◌∙◌}
 use Rattle.std.proofs.Math.Bool.{or-false, and-true, and-false}
 use Rattle.std.specs.Prelude.{◌==◌, ◌||◌, ◌&&◌, filter, AllPairs}
 use Rattle.std.specs.List.{fold}

@@ -1,23 +1,18 @@
 -- The items of the parts of the agreed snapshot, and what a restore gives of them.
-use Rattle.std.proofs.Common.{◌≡◌, ◌≢◌, ℕ, ◌+◌, Bool, true, false, cond, List, [], ◌∷◌, ◌++◌, arith, refl, ap, sym, ◌∙◌}
-use Rattle.std.proofs.Math.Bool.{or-false, and-true, and-false}
-use Rattle.std.specs.Prelude.{◌==◌, ◌||◌, ◌&&◌, not, nat_lt, filter}
+use Rattle.std.proofs.Common.{◌≡◌, ◌≢◌, ℕ, ◌+◌, Bool, true, false, cond, List, [], ◌++◌, arith, refl, ap, sym, ◌∙◌}
+use Rattle.std.specs.Prelude.{◌==◌, ◌&&◌, nat_lt, filter}
 use Rattle.std.specs.List.{sum_by, count_by}
 use Rattle.std.specs.List.Sorted.{IsStrictlyIncreasing}
 use Rattle.std.proofs.lemmas.Bool.{eqb-true, eqb-false, eq-eqb}
-use Rattle.std.proofs.lemmas.List.Sums.{sum_by-cons}
 use Rattle.bf_buddy.specs.Members.{is_member}
-use Rattle.bf_buddy.specs.Buddy.{buddy_of, predecessor_of}
-use Rattle.bf_buddy.proofs.LawLemmas.{predecessor_undoes}
+use Rattle.bf_buddy.specs.Buddy.{predecessor_of}
 use Rattle.bf_program.specs.Laws.{is_holder}
 use Rattle.bf_parts.specs.declared.side.Side.{Side}
-use Rattle.bf_parts.specs.Bools.{eqb_swap}
 use Rattle.bf_parts.specs.Counts.{count_append, amount_at, member_once}
-use Rattle.bf_parts.specs.FillLaws.{not_zero}
 use Rattle.bf_parts.specs.Shares.{held, once, AreOf, IsSide}
 use Rattle.bf_parts.specs.CoverLaws.{split_sum, given_by}
 use Rattle.bf_parts.specs.SideLaws.{predecessor_member, copies_are, holder_before}
-use Rattle.bf_parts.specs.Sides.{has_items, is_given, regained, saved_of}
+use Rattle.bf_parts.specs.Sides.{is_given, regained, saved_of}
 
 -- of a home's part its holders have its keys, each once, and no others
 pub saved_is : {I : Type 0} (key : I → ℕ) (count shift : ℕ) (homes : List ℕ) (home_of : ℕ → ℕ) (rank home : ℕ) (side : Side I) → IsStrictlyIncreasing homes → is_member homes rank ≡ true

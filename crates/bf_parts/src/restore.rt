@@ -4,8 +4,8 @@ ghost use Rattle.bf_program.specs.Restores.{heir_of};
 ghost use Rattle.bf_parts.specs.Leaves.{Kind};
 ghost use Rattle.bf_parts.specs.Merges.{merged, passed, regained};
 
-use bf_buddy::Members;
 use crate::{Items, Side};
+use bf_buddy::Members;
 use bf_program::Memory;
 use std::alloc::Global;
 

@@ -1,5 +1,5 @@
 -- In a program of stages no piece comes or goes, and together told locals hold each unit of the domain once.
-use Rattle.std.proofs.Common.{◌≡◌, ℕ, ◌+◌, Bool, true, List, [], map, filter, arith, refl, sym, ap, ◌∙◌, subst}
+use Rattle.std.proofs.Common.{◌≡◌, ℕ, ◌+◌, Bool, List, [], map, filter, arith, refl, sym, ap, ◌∙◌, subst}
 use Rattle.std.specs.Prelude.{IsTrue, Some}
 use Rattle.std.specs.List.{count_by, flat_map, sum_by}
 use Rattle.bf_buddy.proofs.MemberLemmas.{member_filter_from}
@@ -21,7 +21,7 @@ use Rattle.bf_parts.specs.Spreads.{restored_view}
 use Rattle.bf_parts.specs.Views.{View}
 use Rattle.bf_stages.proofs.StartLemmas.{told_local, IsPlaced, follows_at, keeps_telling}
 use Rattle.bf_stages.proofs.StoredLemmas.{reads_told}
-use Rattle.bf_stages.specs.Stages.{World, Staging, stage_at, view_of, telling_of, IsStaged, Follows, HasStages, HasSides, HasPieces}
+use Rattle.bf_stages.specs.Stages.{World, Staging, stage_at, view_of, telling_of, IsStaged, HasStages, HasSides, HasPieces}
 
 module _ {S K I L N M T G B U : Type 0} (m : Meanings S L M T (Side I)) (st : Staging S K I L N M G) (kind : Kind I) (setup : S) (staged : IsStaged m st setup) (sides : HasSides m st kind setup)
     (regions : Regions S L M T (Side I) B U) (stages : HasStages m st setup regions) (box : I → B) (cargo : L → List B) (pieces : HasPieces m st kind setup regions box cargo) where

@@ -23,7 +23,7 @@ use Rattle.bf_stages.proofs.SnapshotLemmas.{snapshot_by, snapshot_weighs}
 use Rattle.bf_stages.proofs.StartLemmas.{keeps_telling, keeps_starts}
 use Rattle.bf_stages.proofs.StoredLemmas.{reads_kept, given_kept, stored_kept}
 use Rattle.bf_stages.specs.Snapshots.{snapshot_play, snapshot_course}
-use Rattle.bf_stages.specs.Stages.{World, Staging, head_of, Chain, trio_of, local_of_stage, after_stage, IsPlacedAt, telling_of, IsStaged, Follows, HasStages, IsPartStage, IsAloneStage, IsSnapshotStage, KeepsSide, HasSides, HasSpans, HasPieces}
+use Rattle.bf_stages.specs.Stages.{World, Staging, head_of, Chain, trio_of, local_of_stage, after_stage, telling_of, IsStaged, Follows, HasStages, IsPartStage, IsAloneStage, IsSnapshotStage, KeepsSide, HasSides, HasSpans, HasPieces}
 
 -- one chain behind another
 pub chain_append : {G : Type 0} (R : G → G → Type 0) (xs ys : List G) (last : G) → Chain R xs (head_of ys last) → Chain R ys last → Chain R (xs ++ ys) last

@@ -1,5 +1,5 @@
 -- Rounds, openings, commits and restores of a program of stages lead from told vectors to told vectors.
-use Rattle.std.proofs.Common.{◌≡◌, ℕ, ◌+◌, ◌<◌, ◌≤◌, Bool, true, false, cond, List, length, map, filter, arith, refl, sym, ap, ◌∙◌, subst}
+use Rattle.std.proofs.Common.{◌≡◌, ℕ, ◌+◌, ◌<◌, Bool, true, List, map, filter, arith, refl, sym, ap, ◌∙◌, subst}
 use Rattle.std.specs.Prelude.{◌||◌, None, slice_index_or}
 use Rattle.std.specs.List.{range_with_len}
 use Rattle.std.specs.List.Sorted.{IsStrictlyIncreasing}
@@ -25,7 +25,7 @@ use Rattle.bf_parts.specs.Spreads.{view_at, kept_view, restored_view}
 use Rattle.bf_parts.specs.StockLaws.{owner_filled, side_stocked, stored_is}
 use Rattle.bf_parts.specs.Views.{View, IsStocked, IsHeld}
 use Rattle.bf_stages.proofs.ChainLemmas.{head_is, chain_at, beyond}
-use Rattle.bf_stages.specs.Stages.{World, Staging, stage_at, head_of, trio_of, view_of, local_of_stage, after_stage, IsPlacedAt, telling_of, IsStaged, Follows, HasStages, HasSides, HasSpans}
+use Rattle.bf_stages.specs.Stages.{World, Staging, stage_at, trio_of, view_of, local_of_stage, after_stage, IsPlacedAt, telling_of, IsStaged, Follows, HasStages, HasSides, HasSpans}
 
 module _ {S K I L N M T G : Type 0} (m : Meanings S L M T (Side I)) (st : Staging S K I L N M G) (kind : Kind I) (setup : S) (staged : IsStaged m st setup) where
   -- a rank's local at the beginning of a round

@@ -1,6 +1,6 @@
 -- What a restore reads, which homes are stored, and to whom a restore gives their parts, in a program of stages.
 use Rattle.std.proofs.Common.{◌≡◌, ℕ, ◌+◌, ◌<◌, Bool, true, false, cond, List, [], ◌∷◌, map, filter, arith, refl, sym, ap, ◌∙◌, subst}
-use Rattle.std.specs.Prelude.{◌==◌, ◌&&◌, IsTrue, All, Some, None}
+use Rattle.std.specs.Prelude.{IsTrue, All}
 use Rattle.std.specs.List.{range_with_len, zip}
 use Rattle.std.specs.List.Sorted.{IsStrictlyIncreasing}
 use Rattle.std.specs.Map.{keys_of}
@@ -11,9 +11,9 @@ use Rattle.bf_buddy.specs.Members.{is_member}
 use Rattle.bf_program.specs.declared.epoch.Epoch.{Epoch}
 use Rattle.bf_program.specs.Epochs.{first_epoch, epoch_after_commit}
 use Rattle.bf_program.specs.Laws.{KeepsReads, KeepsStored, KeepsParts}
-use Rattle.bf_program.specs.Lockstep.{local_of, next_locals}
+use Rattle.bf_program.specs.Lockstep.{next_locals}
 use Rattle.bf_program.specs.Meanings.{Meanings, Regions}
-use Rattle.bf_program.specs.Restores.{heir_of, restored_epoch, restored_locals, filled_members}
+use Rattle.bf_program.specs.Restores.{restored_epoch, restored_locals, filled_members}
 use Rattle.bf_rounds.proofs.CourseLemmas.{next_is}
 use Rattle.bf_rounds.proofs.PointLemmas.{told_its}
 use Rattle.bf_rounds.proofs.StartLemmas.{kept_told, restored_told}
@@ -25,8 +25,8 @@ use Rattle.bf_parts.specs.Spreads.{view_at, restored_view}
 use Rattle.bf_parts.specs.StockLaws.{part_filled, side_stocked, given_among}
 use Rattle.bf_parts.specs.Views.{View}
 use Rattle.bf_stages.proofs.ChainLemmas.{beyond}
-use Rattle.bf_stages.proofs.StartLemmas.{told_local, IsPlaced, keeps_telling, stored_told, first_world, first_placed, opening_told, kept_world, kept_placed, kept_is, regained_world, regained_placed, regained_local}
-use Rattle.bf_stages.specs.Stages.{World, Staging, stage_at, trio_of, view_of, local_of_stage, after_stage, telling_of, IsStaged, HasStages, HasSides, HasSpans}
+use Rattle.bf_stages.proofs.StartLemmas.{told_local, keeps_telling, stored_told, first_world, first_placed, opening_told, kept_world, kept_placed, kept_is, regained_world, regained_placed, regained_local}
+use Rattle.bf_stages.specs.Stages.{World, Staging, stage_at, trio_of, view_of, after_stage, telling_of, IsStaged, HasStages, HasSides, HasSpans}
 
 -- the members whose part of the new snapshot has an item
 filled_told : {S L M T R : Type 0} (m : Meanings S L M T R) (test : ℕ → Bool) (at : ℕ → L) (members : List ℕ) → ((rank : ℕ) → is_member members rank ≡ true → m.filled (at rank) ≡ test rank)
