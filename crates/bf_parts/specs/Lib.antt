@@ -28,3 +28,4 @@ pub mod SnapshotRounds
 pub mod Spreads
 pub mod StockLaws
 pub mod Views
+pub mod ViewLaws

@@ -1,7 +1,10 @@
--- Parts of two owners merged are the part of both.
-use Rattle.std.proofs.Common.{◌≡◌, Bool, true, false, cond, List, [], ◌∷◌, map, refl, ap, ◌∙◌, arith, suc}
-use Rattle.std.specs.Prelude.{◌||◌, filter, All, AllPairs}
+-- Parts rise, and parts of two owners merged are the items of both in their order.
+use Rattle.std.proofs.Common.{◌≡◌, ◌≢◌, ℕ, Bool, true, false, cond, List, [], ◌∷◌, map, refl, ap, ◌∙◌, arith, suc}
+use Rattle.std.specs.Prelude.{◌==◌, ◌||◌, filter, All, AllPairs}
+use Rattle.std.proofs.lemmas.Bool.Decides.{nat_tests}
+use Rattle.std.proofs.lemmas.List.Kept.{AllPairs-cons, AllPairs-filter}
 use Rattle.std.proofs.lemmas.List.Elements.{All-nil, All-cons, All-head, All-tail}
+use Rattle.bf_parts.specs.Leaves.{Kind, Leaves, AreLeaves, part_of}
 use Rattle.bf_parts.specs.Merges.{placed, merged}
 
 -- what later keys are to a first one
@@ -72,3 +75,29 @@ module _ {K I : Type 0} (first : I → I → Bool) (item : K → I) where
       at false true alone later = merged_after first (item k) (map item (filter p ks)) (map item (filter q ks)) (all_before k p ks after)
           ∙ ap (λ rest. item k ∷ rest) later
       at false false alone later = later
+
+-- parts rise
+pairs_mapped : {K I : Type 0} (R : I → I → Type 0) (f : K → I) (ks : List K) → AllPairs (λ i j. R (f i) (f j)) ks → AllPairs R (map f ks)
+pairs_mapped R f [] pairs = λ i j d below within. absurd (omega arith)
+pairs_mapped {K = K} R f (k ∷ ks) pairs =
+    AllPairs-cons R (f k) (map f ks) (all_mapped ks (first_pairs (λ i j. R (f i) (f j)) k ks pairs)) (pairs_mapped R f ks (rest_pairs (λ i j. R (f i) (f j)) k ks pairs))
+  where
+    all_mapped : (js : List K) → All (λ j. R (f k) (f j)) js → All (R (f k)) (map f js)
+    all_mapped [] all = All-nil (R (f k))
+    all_mapped (j ∷ js) all = All-cons (R (f k)) (f j) (map f js) (All-head (λ j. R (f k) (f j)) j js all) (all_mapped js (All-tail (λ j. R (f k) (f j)) j js all))
+
+pub part_rises : {K I : Type 0} (kind : Kind I) (leaves : Leaves K I) (owner : K → ℕ) (rank : ℕ) → AreLeaves kind leaves → AllPairs (Precedes kind.first (λ item. item)) (part_of leaves owner rank)
+unfolding part_of
+part_rises kind leaves owner rank are =
+    pairs_mapped (Precedes kind.first (λ item. item)) (leaves.item owner) (filter (λ key. owner key == rank) leaves.keys)
+    (AllPairs-filter (Precedes kind.first (leaves.item owner)) (λ key. owner key == rank) leaves.keys (are.rising owner))
+
+other : (k a b : ℕ) → a ≢ b → (k == a) ≡ true → (k == b) ≡ false
+other k a b apart its = grind (arith, nat_tests, apart)
+
+-- two parts, merged, are the items of both in their order
+pub parts_merged : {K I : Type 0} (kind : Kind I) (leaves : Leaves K I) (owner : K → ℕ) (a b : ℕ) → AreLeaves kind leaves → a ≢ b
+    → merged kind.first (part_of leaves owner a) (part_of leaves owner b) ≡ map (leaves.item owner) (filter (λ key. owner key == a || owner key == b) leaves.keys)
+unfolding part_of
+parts_merged kind leaves owner a b are apart =
+    merged_is kind.first (leaves.item owner) (λ key. owner key == a) (λ key. owner key == b) (λ key its. other (owner key) a b apart its) leaves.keys (are.rising owner)

@@ -111,14 +111,13 @@ module _ {I : Type 0} (filled : ℕ → Bool) (homes : List ℕ) (shift rank : �
       ∙ ap (λ b. filled home && (home == rank || (not (is_member live (predecessor_of homes rank shift)) && b))) (eqb_swap (predecessor_of homes rank shift) home)
       ∙ ap (λ b. filled home && b) (sym (heir_is homes live shift rank home up is_home lives home_in))
 
-  pub given_among : (live stored : List ℕ) (home : ℕ) → IsStrictlyIncreasing homes → is_member homes rank ≡ true → is_member live rank ≡ true → stored ≡ filter filled homes
-      → is_member (filter (is_given side rank live) side.homes) home ≡ (is_member stored home && (heir_of homes live shift home == rank))
-  given_among live stored home up is_home lives stored_is =
+  pub given_among : (live : List ℕ) (home : ℕ) → IsStrictlyIncreasing homes → is_member homes rank ≡ true → is_member live rank ≡ true
+      → is_member (filter (is_given side rank live) side.homes) home ≡ (is_member (filter filled homes) home && (heir_of homes live shift home == rank))
+  given_among live home up is_home lives =
       member_filter (is_given side rank live) side.homes home
       ∙ ap (λ hs. is_member hs home && is_given side rank live home) is.same
       ∙ at (is_member homes home) refl
       ∙ ap (λ b. b && (heir_of homes live shift home == rank)) (sym (member_filter filled homes home))
-      ∙ ap (λ hs. is_member hs home && (heir_of homes live shift home == rank)) (sym stored_is)
     where
       at : (b : Bool) → is_member homes home ≡ b → (b && is_given side rank live home) ≡ ((b && filled home) && (heir_of homes live shift home == rank))
       at true home_in = given_is live home up is_home lives home_in

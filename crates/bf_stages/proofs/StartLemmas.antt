@@ -1,5 +1,5 @@
 -- Rounds, openings, commits and restores of a program of stages lead from told vectors to told vectors.
-use Rattle.std.proofs.Common.{◌≡◌, ℕ, ◌+◌, ◌<◌, Bool, true, List, map, filter, arith, refl, sym, ap, ◌∙◌, subst}
+use Rattle.std.proofs.Common.{◌≡◌, ℕ, ◌+◌, ◌<◌, Bool, true, false, List, map, filter, arith, refl, sym, ap, ◌∙◌, subst}
 use Rattle.std.specs.Prelude.{◌||◌, None, slice_index_or}
 use Rattle.std.specs.List.{range_with_len}
 use Rattle.std.specs.List.Sorted.{IsStrictlyIncreasing}
@@ -19,10 +19,9 @@ use Rattle.bf_rounds.proofs.VectorLemmas.{map_members}
 use Rattle.bf_rounds.specs.Canonical.{KeepsTelling, KeepsStarts}
 use Rattle.bf_parts.specs.declared.side.Side.{Side}
 use Rattle.bf_parts.specs.Leaves.{Kind, Leaves, AreAmong, part_of, is_filled, side_at}
-use Rattle.bf_parts.specs.RestoreLaws.{regained_is}
-use Rattle.bf_parts.specs.Sides.{bare}
 use Rattle.bf_parts.specs.Spreads.{view_at, kept_view, restored_view}
-use Rattle.bf_parts.specs.StockLaws.{owner_filled, side_stocked, stored_is}
+use Rattle.bf_parts.specs.StockLaws.{owner_filled}
+use Rattle.bf_parts.specs.ViewLaws.{begun_trio, kept_seen, restored_seen, stored_seen}
 use Rattle.bf_parts.specs.Views.{View, IsStocked, IsHeld}
 use Rattle.bf_stages.proofs.ChainLemmas.{head_is, chain_at, beyond}
 use Rattle.bf_stages.specs.Stages.{World, Staging, stage_at, trio_of, view_of, local_of_stage, after_stage, IsPlacedAt, telling_of, IsStaged, Follows, HasStages, HasSides, HasSpans}
@@ -64,11 +63,8 @@ module _ {S K I L N M T G : Type 0} (m : Meanings S L M T (Side I)) (st : Stagin
     stored_told epoch round world placed =
         let stage : G = stage_at st setup epoch round in
         sides.stored (map (told_local epoch round world) epoch.members)
-        ∙ stored_is st.look (is_filled (st.at setup epoch.time) world.home) (m.shift setup) epoch.homes epoch.members placed.held (told_local epoch round world)
-        (λ rank is_in. ap (λ (v : View I). v.rank) (sides.seen (view_of m st setup epoch stage world rank) (st.work setup epoch stage world.owner rank)))
-        (λ rank is_in. subst (λ (v : View I). IsStocked (is_filled (st.at setup epoch.time) world.home) epoch.homes (m.shift setup) rank v.active)
-        (sym (sides.seen (view_of m st setup epoch stage world rank) (st.work setup epoch stage world.owner rank)))
-        (side_stocked epoch.time epoch.homes (m.shift setup) (st.at setup epoch.time) world.home rank))
+        ∙ stored_seen st.look (m.shift setup) epoch (st.made stage) (trio_of m st setup epoch stage) world.owner world.home (told_local epoch round world)
+        (λ rank is_in. sides.seen (view_of m st setup epoch stage world rank) (st.work setup epoch stage world.owner rank)) placed.held
 
     -- where no part is lost, each filled home or its buddy lives
     nothing_lost : (epoch : Epoch) (round : ℕ) (world : World K) (lives : ℕ → Bool) → IsPlaced epoch round world
@@ -83,12 +79,7 @@ module _ {S K I L N M T G : Type 0} (m : Meanings S L M T (Side I)) (st : Stagin
     module _ (spans : HasSpans m st kind setup) where
       -- a view at the beginning of an epoch
       abbrev begun_view : Epoch → World K → (rank : ℕ) → View I
-      begun_view epoch world rank = record {
-        rank = rank;
-        items = part_of (st.at setup epoch.time) world.owner rank;
-        active = side_at epoch.time epoch.homes (m.shift setup) (st.at setup epoch.time) world.home rank;
-        spare = bare;
-      }
+      begun_view epoch world rank = view_at (m.shift setup) epoch false (begun_trio (st.at setup epoch.time) (st.at setup epoch.target)) world.owner world.home rank
 
       first_leaves : (epoch : Epoch) → st.Runs setup epoch → st.leaves setup epoch (stage_at st setup epoch 0) ≡ st.at setup epoch.time
       first_leaves epoch runs = ap (st.leaves setup epoch) (head_is (st.stages setup epoch) st.last) ∙ spans.begins epoch runs
@@ -168,12 +159,12 @@ module _ {S K I L N M T G : Type 0} (m : Meanings S L M T (Side I)) (st : Stagin
           }
 
       -- the view behind the last stage, whose new snapshot becomes the agreed one
-      kept_seen : (epoch : Epoch) (world : World K) (rank : ℕ) → st.Runs setup epoch
+      last_kept : (epoch : Epoch) (world : World K) (rank : ℕ) → st.Runs setup epoch
           → kept_view (view_of m st setup epoch st.last world rank) ≡ begun_view (epoch_after_commit (m.steps setup) (m.interval setup) epoch) (kept_world world) rank
-      kept_seen epoch world rank runs =
+      last_kept epoch world rank runs =
           ap (λ (b : Bool). kept_view (view_at (m.shift setup) epoch b (trio_of m st setup epoch st.last) world.owner world.home rank)) staged.made
-          ∙ ap (λ (ls : Leaves K I). kept_view (view_at (m.shift setup) epoch true (record { now = ls; agreed = st.at setup epoch.time; new = st.at setup epoch.target }) world.owner world.home rank))
-          (spans.ends epoch runs)
+          ∙ kept_seen (m.shift setup) (m.steps setup) (m.interval setup) epoch (trio_of m st setup epoch st.last)
+          (st.at setup (epoch_after_commit (m.steps setup) (m.interval setup) epoch).target) world.owner world.home rank (spans.ends epoch runs)
 
       pub kept_is : (epoch : Epoch) (world : World K) (rank : ℕ) → IsPlaced epoch (m.rounds setup epoch) world → epoch.target < m.steps setup
           → m.keep (told_local epoch (m.rounds setup epoch) world rank) ≡ told_local (epoch_after_commit (m.steps setup) (m.interval setup) epoch) 0 (kept_world world) rank
@@ -181,7 +172,7 @@ module _ {S K I L N M T G : Type 0} (m : Meanings S L M T (Side I)) (st : Stagin
           let after : Epoch = epoch_after_commit (m.steps setup) (m.interval setup) epoch in
           ap (λ (s : G). m.keep (local_of_stage m st setup epoch s world rank)) (last_is epoch)
           ∙ spans.keep epoch (view_of m st setup epoch st.last world rank) world.owner rank placed.runs goes_on
-          ∙ ap (λ (v : View I). st.put v (st.fresh setup after rank)) (kept_seen epoch world rank placed.runs)
+          ∙ ap (λ (v : View I). st.put v (st.fresh setup after rank)) (last_kept epoch world rank placed.runs)
           ∙ begun after (kept_world world) rank (spans.commit_runs epoch placed.runs goes_on)
 
       -- a restore
@@ -213,13 +204,12 @@ module _ {S K I L N M T G : Type 0} (m : Meanings S L M T (Side I)) (st : Stagin
       regained_local epoch round world lives rank placed is_in =
           let live : List ℕ = filter lives epoch.members in
           let stage : G = stage_at st setup epoch round in
-          let side : Side I = side_at epoch.time epoch.homes (m.shift setup) (st.at setup epoch.time) world.home rank in
           sides.restore (told_local epoch round world rank) rank (restored_epoch lives epoch)
           ∙ ap (λ (v : View I). st.put (restored_view kind (m.shift setup) v.active rank live) (st.fresh setup (restored_epoch lives epoch) rank))
           (sides.seen (view_of m st setup epoch stage world rank) (st.work setup epoch stage world.owner rank))
-          ∙ ap (λ (items : List I). st.put (record { rank = rank; items = items; active = side; spare = bare }) (st.fresh setup (restored_epoch lives epoch) rank))
-          (regained_is kind (st.at setup epoch.time) (spans.are epoch placed.runs) epoch.homes live (m.shift setup) world.home rank placed.held.homes_rise
-          (placed.held.among rank (member_filter_parts lives epoch.members rank is_in).0) is_in placed.housed epoch.time)
+          ∙ ap (λ (v : View I). st.put v (st.fresh setup (restored_epoch lives epoch) rank))
+          (restored_seen kind (m.shift setup) epoch (st.made stage) (trio_of m st setup epoch stage) (st.at setup epoch.time) lives world.owner world.home rank (spans.are epoch placed.runs)
+          placed.held.homes_rise (placed.held.among rank (member_filter_parts lives epoch.members rank is_in).0) is_in placed.housed)
           ∙ begun (restored_epoch lives epoch) (regained_world epoch lives world) rank (spans.restore_runs epoch lives placed.runs)
 
       pub keeps_starts : KeepsStarts m (telling_of m st) setup

@@ -1,6 +1,6 @@
 -- What a restore reads, which homes are stored, and to whom a restore gives their parts, in a program of stages.
 use Rattle.std.proofs.Common.{◌≡◌, ℕ, ◌+◌, ◌<◌, Bool, true, false, cond, List, [], ◌∷◌, map, filter, arith, refl, sym, ap, ◌∙◌, subst}
-use Rattle.std.specs.Prelude.{IsTrue, All}
+use Rattle.std.specs.Prelude.{◌==◌, ◌&&◌, IsTrue, All}
 use Rattle.std.specs.List.{range_with_len, zip}
 use Rattle.std.specs.List.Sorted.{IsStrictlyIncreasing}
 use Rattle.std.specs.Map.{keys_of}
@@ -13,7 +13,7 @@ use Rattle.bf_program.specs.Epochs.{first_epoch, epoch_after_commit}
 use Rattle.bf_program.specs.Laws.{KeepsReads, KeepsStored, KeepsParts}
 use Rattle.bf_program.specs.Lockstep.{next_locals}
 use Rattle.bf_program.specs.Meanings.{Meanings, Regions}
-use Rattle.bf_program.specs.Restores.{restored_epoch, restored_locals, filled_members}
+use Rattle.bf_program.specs.Restores.{heir_of, restored_epoch, restored_locals, filled_members}
 use Rattle.bf_rounds.proofs.CourseLemmas.{next_is}
 use Rattle.bf_rounds.proofs.PointLemmas.{told_its}
 use Rattle.bf_rounds.proofs.StartLemmas.{kept_told, restored_told}
@@ -22,7 +22,8 @@ use Rattle.bf_parts.specs.declared.side.Side.{Side}
 use Rattle.bf_parts.specs.Leaves.{Kind, is_filled, side_at}
 use Rattle.bf_parts.specs.Sides.{has_items}
 use Rattle.bf_parts.specs.Spreads.{view_at, restored_view}
-use Rattle.bf_parts.specs.StockLaws.{part_filled, side_stocked, given_among}
+use Rattle.bf_parts.specs.StockLaws.{part_filled}
+use Rattle.bf_parts.specs.ViewLaws.{given_seen}
 use Rattle.bf_parts.specs.Views.{View}
 use Rattle.bf_stages.proofs.ChainLemmas.{beyond}
 use Rattle.bf_stages.proofs.StartLemmas.{told_local, keeps_telling, stored_told, first_world, first_placed, opening_told, kept_world, kept_placed, kept_is, regained_world, regained_placed, regained_local}
@@ -97,9 +98,9 @@ module _ {S K I L N M T G : Type 0} (m : Meanings S L M T (Side I)) (st : Stagin
           let side : Side I = side_at epoch.time epoch.homes (m.shift setup) (st.at setup epoch.time) told.world.home rank in
           ap (λ (s : Side I). is_member (m.given setup s rank (restored_epoch lives epoch)) home) (ap m.reads at.1 ∙ reads_told epoch round told.world rank)
           ∙ ap (λ homes. is_member homes home) (sides.given side rank (restored_epoch lives epoch))
-          ∙ given_among (is_filled (st.at setup epoch.time) told.world.home) epoch.homes (m.shift setup) rank side
-          (side_stocked epoch.time epoch.homes (m.shift setup) (st.at setup epoch.time) told.world.home rank) (filter lives epoch.members) (m.stored locals) home told.fits.held.homes_rise
-          (told.fits.held.among rank at.0) (member_filter_from lives epoch.members rank at.0 live) (stored_by epoch round locals told);
+          ∙ given_seen epoch.time epoch.homes (filter lives epoch.members) (m.shift setup) (st.at setup epoch.time) told.world.home rank home told.fits.held.homes_rise
+          (told.fits.held.among rank at.0) (member_filter_from lives epoch.members rank at.0 live)
+          ∙ ap (λ homes. is_member homes home && (heir_of epoch.homes (filter lives epoch.members) (m.shift setup) home == rank)) (sym (stored_by epoch round locals told));
     }
 
     module _ (spans : HasSpans m st kind setup) where
