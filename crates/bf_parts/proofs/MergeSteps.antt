@@ -61,3 +61,44 @@ passed_here p ys i d within fails passes =
     sym (position_or_len_is p ys i d (omega arith)
     (λ k below. let same : get_or (take i ys) k d ≡ get_or ys k d = get_or-take i ys k d below in
     ap p (sym same) ∙ fails k d (rw (length-take i ys) (omega arith))) (λ _. passes))
+
+-- with none, a list is as it was
+pub merged_none : {I : Type 0} (first : I → I → Bool) (own : List I) → merged first own [] ≡ own
+merged_none first [] = refl
+merged_none first (x ∷ xs) = ap (λ rest. x ∷ rest) (merged_none first xs)
+
+-- some of others went to the end of a list, none of which comes after an item
+pub record HasPassed {I : Type 0} (first : I → I → Bool) (x : I) (all others more rest : List I) : Type 0 where
+  pub so_far : more ++ take (passed first x rest) rest ≡ all ++ take (passed first x others) others
+  pub left : drop (passed first x rest) rest ≡ drop (passed first x others) others
+
+passed_next : {I : Type 0} (first : I → I → Bool) (x y : I) (ys : List I) → first x y ≡ false → passed first x (y ∷ ys) ≡ suc (passed first x ys)
+passed_next first x y ys comes = rw comes (one-add (passed first x ys))
+
+-- one more goes
+pub pass_one : {I : Type 0} (first : I → I → Bool) (x y : I) (all others more rest more_now rest_now : List I) → first x y ≡ false → rest ≡ y ∷ rest_now → more_now ≡ more ++ y ∷ []
+    → HasPassed first x all others more rest → HasPassed first x all others more_now rest_now
+pass_one {I = I} first x y all others more rest more_now rest_now comes is_rest is_more has =
+    let next = passed_next first x y rest_now comes in
+    record {
+      so_far = ap (λ (m : List I). m ++ take (passed first x rest_now) rest_now) is_more
+          ∙ append_assoc more (y ∷ []) (take (passed first x rest_now) rest_now)
+          ∙ ap (λ (n : ℕ). more ++ take n (y ∷ rest_now)) (sym next)
+          ∙ ap (λ (r : List I). more ++ take (passed first x r) r) (sym is_rest)
+          ∙ has.so_far;
+      left = ap (λ (n : ℕ). drop n (y ∷ rest_now)) (sym next) ∙ ap (λ (r : List I). drop (passed first x r) r) (sym is_rest) ∙ has.left;
+    }
+
+-- one more of a list is put behind those of others that don't come after it
+pub merge_step : {I : Type 0} (first : I → I → Bool) (x : I) (own own_now others others_now all passing all_now total : List I) → own ≡ x ∷ own_now
+    → passing ≡ all ++ take (passed first x others) others → others_now ≡ drop (passed first x others) others → all_now ≡ passing ++ x ∷ []
+    → all ++ merged first own others ≡ total → all_now ++ merged first own_now others_now ≡ total
+merge_step {I = I} first x own own_now others others_now all passing all_now total is_own is_passing is_others is_all so_far =
+    let gone : List I = take (passed first x others) others in
+    ap (λ (zs : List I). zs ++ merged first own_now others_now) (is_all ∙ ap (λ (ps : List I). ps ++ x ∷ []) is_passing)
+    ∙ append_assoc (all ++ gone) (x ∷ []) (merged first own_now others_now)
+    ∙ append_assoc all gone (x ∷ merged first own_now others_now)
+    ∙ ap (λ (ys : List I). all ++ (gone ++ x ∷ merged first own_now ys)) is_others
+    ∙ ap (λ (zs : List I). all ++ zs) (sym (placed_at first x (merged first own_now) others))
+    ∙ ap (λ (xs : List I). all ++ merged first xs others) (sym is_own)
+    ∙ so_far

@@ -2,10 +2,12 @@
 #![tactic(auto)]
 
 pub mod laws;
+mod merging;
 mod restore;
 mod side;
 
 pub use bf_items::Items;
+pub use merging::merge;
 pub use restore::{Linked, regained};
 pub use side::{Side, gives, source_of};
 
