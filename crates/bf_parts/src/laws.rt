@@ -1,69 +1,109 @@
-//! Laws of items that members keep in parts, each the contract of a call that does nothing.
+//! Laws of items that ranks keep in parts, each the contract of a call that does nothing.
 //!
-//! `L` is a program's local, and `I` its item.
-ghost use Rattle.std.specs.Prelude.{◌≡◌, ℕ, ◌<◌, ◌≤◌, nat_lt, Bool, IsTrue, List, None, map, filter};
-ghost use Rattle.std.specs.List.{range_with_len, zip, flat_map, count_by, sum_by};
+//! `K` is a key, `I` an item and `L` a program's local.
+ghost use Rattle.std.specs.Prelude.{◌≡◌, ◌≢◌, ℕ, ◌==◌, ◌||◌, ◌&&◌, Bool, IsTrue, true, false, AllPairs, List, ◌∷◌, map, filter};
+ghost use Rattle.std.specs.List.{flat_map, count_by, sum_by, fold};
 ghost use Rattle.std.specs.List.Sorted.{IsStrictlyIncreasing};
 ghost use Rattle.bf_buddy.specs.Members.{is_member};
-ghost use Rattle.bf_buddy.specs.Losses.{first_lost_of};
 ghost use Rattle.bf_program.specs.declared.epoch.Epoch.{Epoch};
-ghost use Rattle.bf_program.specs.Epochs.{first_epoch, epoch_after_commit};
+ghost use Rattle.bf_program.specs.Epochs.{epoch_after_commit};
 ghost use Rattle.bf_program.specs.Laws.{is_holder};
-ghost use Rattle.bf_program.specs.Restores.{restored_epoch};
-ghost use Rattle.bf_parts.specs.declared.side.Side.{Side};
-ghost use Rattle.bf_parts.specs.Looks.{Look, stored_of};
-ghost use Rattle.bf_parts.specs.Openings.{IsOpened, IsKept, IsRestored};
-ghost use Rattle.bf_parts.specs.Shares.{held, once, is_filled, AreOf, IsSide, IsShared};
-ghost use Rattle.bf_parts.specs.Sides.{regained, saved_of, is_given};
+ghost use Rattle.bf_program.specs.Restores.{heir_of, restored_epoch};
+ghost use Rattle.bf_parts.specs.Leaves.{Kind, Leaves, AreLeaves, AreAmong, part_of, is_filled, side_at};
+ghost use Rattle.bf_parts.specs.Merges.{merged, regained};
+ghost use Rattle.bf_parts.specs.Sides.{saved_of, is_given};
+ghost use Rattle.bf_parts.specs.Spreads.{Trio, view_at, kept_view, restored_view};
+ghost use Rattle.bf_parts.specs.Views.{View, stored_of, IsHeld};
+ghost use Rattle.bf_parts.specs.MergeLaws.{Precedes};
+ghost use Rattle.bf_parts.specs.MoveLaws.{AreApart};
+ghost use Rattle.bf_parts.specs.ViewLaws.{begun_trio};
 
-/// Where each rank begins with the items of its keys, and has copies of its predecessor's, the items are shared out.
-pub fn the_opening_shares_items_out<L, I>()
-    ensures { (look : Look L I) (count shift ranks rounds steps interval : ℕ) (home_of : ℕ → ℕ) (first : ℕ → List I) (opened : ℕ → L) → 1 ≤ rounds
-        → ((key : ℕ) → key < count → home_of key < ranks)
-        → ((rank : ℕ) → IsTrue (is_member (range_with_len 0 ranks) rank) → AreOf look.key count home_of rank (first rank))
-        → ((rank : ℕ) → rank < ranks → IsOpened look first ranks shift rank (opened rank))
-        → IsShared look count shift rounds (first_epoch ranks steps interval) 0 (map opened (range_with_len 0 ranks)) }
+/// A part is in rising order.
+pub fn parts_rise<K, I>()
+    ensures { (kind : Kind I) (leaves : Leaves K I) (owner : K → ℕ) (rank : ℕ) → AreLeaves kind leaves
+        → AllPairs (Precedes kind.first (λ item. item)) (part_of leaves owner rank) }
 {}
 
-/// A commit leaves the items shared out, with the members as the homes.
-pub fn a_commit_leaves_items_shared_out<L, I>()
-    ensures { (look : Look L I) (count shift rounds after_rounds steps interval : ℕ) (epoch : Epoch) (locals : List L) (keep : L → L) → 1 ≤ after_rounds
-        → ((local : L) → IsKept look local (keep local)) → IsShared look count shift rounds epoch rounds locals
-        → IsShared look count shift after_rounds (epoch_after_commit steps interval epoch) 0 (map keep locals) }
+/// Where the owners are members, the parts of all members together have each leaf once, by whichever test they are counted.
+#[tactic(auto, using(crate::specs::CoverLaws::parts_together))]
+pub fn each_leaf_is_in_one_part<K, I>()
+    ensures { (leaves : Leaves K I) (owner : K → ℕ) (test : I → Bool) (members : List ℕ) → IsStrictlyIncreasing members → AreAmong members leaves owner
+        → count_by test (flat_map (part_of leaves owner) members) ≡ count_by (λ key. test (leaves.item owner key)) leaves.keys }
 {}
 
-/// Where no part is lost, a restore at the live members shares all items out among them.
-pub fn a_restore_shares_items_out_again<L, I>()
-    ensures { (look : Look L I) (count shift rounds after_rounds : ℕ) (epoch : Epoch) (round : ℕ) (locals : List L) (lives : ℕ → Bool) (restore : ℕ → L → L) → 1 ≤ after_rounds
-        → ((rank : ℕ) (local : L) → IsRestored look (look.active local) rank (filter lives epoch.members) (restore rank local))
-        → IsShared look count shift rounds epoch round locals
-        → first_lost_of epoch.homes (stored_of look locals) (filter lives epoch.members) shift ≡ None
-        → IsShared look count shift after_rounds (restored_epoch lives epoch) 0
-        (map (λ seat. restore seat.0 seat.1) (filter (λ seat. lives seat.0) (zip epoch.members locals))) }
+/// Two parts merged are the items of both owners in their common order.
+#[tactic(auto, using(crate::specs::MergeLaws::parts_merged))]
+pub fn two_parts_merged_are_the_items_of_both<K, I>()
+    ensures { (kind : Kind I) (leaves : Leaves K I) (owner : K → ℕ) (a b : ℕ) → AreLeaves kind leaves → a ≢ b
+        → merged kind.first (part_of leaves owner a) (part_of leaves owner b)
+        ≡ map (leaves.item owner) (filter (λ key. owner key == a || owner key == b) leaves.keys) }
 {}
 
-/// The homes whose part is stored are those of which a key is.
-pub fn homes_with_keys_are_stored<L, I>()
-    ensures { (look : Look L I) (count shift rounds : ℕ) (epoch : Epoch) (round : ℕ) (locals : List L) (shared : IsShared look count shift rounds epoch round locals)
-        → stored_of look locals ≡ filter (is_filled count shared.home_of) epoch.homes }
+/// The leaves that stay at a rank, merged with those that come to it from each of the others, are its part by the new owners.
+pub fn what_stays_and_what_comes_is_the_new_part<K, I>()
+    ensures { (kind : Kind I) (leaves : Leaves K I) → AreLeaves kind leaves → (owner later : K → ℕ) (rank : ℕ) (peers : List ℕ)
+        → AreApart (rank ∷ peers) → AreAmong (rank ∷ peers) leaves owner
+        → fold (λ items peer. merged kind.first items (map (leaves.item later) (filter (λ key. later key == rank && owner key == peer) leaves.keys)))
+        (map (leaves.item later) (filter (λ key. later key == rank && owner key == rank) leaves.keys)) peers
+        ≡ part_of leaves later rank }
 {}
 
-/// The members have each key once together, and no others.
-pub fn each_key_is_at_one_member<L, I>()
-    ensures { (look : Look L I) (count shift rounds : ℕ) (epoch : Epoch) (round : ℕ) (locals : List L) → IsShared look count shift rounds epoch round locals
-        → (key : ℕ) → held look.key (flat_map look.items locals) key ≡ once (nat_lt key count) }
+/// Who is to hold a home's part of a snapshot has the items of its leaves.
+pub fn holders_have_a_homes_part<K, I>()
+    ensures { (time : ℕ) (homes : List ℕ) (shift : ℕ) (leaves : Leaves K I) (home_of : K → ℕ) (rank home : ℕ) → IsStrictlyIncreasing homes
+        → IsTrue (is_member homes home) → IsTrue (is_holder homes shift home rank)
+        → saved_of (side_at time homes shift leaves home_of rank) rank home ≡ part_of leaves home_of home }
 {}
 
-/// Who is to hold a home's part of the agreed snapshot has the items of its keys.
-pub fn holders_have_a_homes_items<I>()
-    ensures { (key : I → ℕ) (count shift : ℕ) (homes : List ℕ) (home_of : ℕ → ℕ) (rank home : ℕ) (side : Side I) → IsStrictlyIncreasing homes
-        → IsTrue (is_member homes rank) → IsTrue (is_member homes home) → IsTrue (is_holder homes shift home rank) → IsSide key count shift homes home_of rank side
-        → AreOf key count home_of home (saved_of side rank home) }
+/// The homes whose part is stored are those of which a leaf is.
+pub fn homes_with_a_leaf_are_stored<L, K, I>()
+    ensures { (look : L → View I) (shift : ℕ) (epoch : Epoch) (is_made : Bool) (leaves : Trio K I) (owner home_of : K → ℕ) (at : ℕ → L)
+        → ((rank : ℕ) → IsTrue (is_member epoch.members rank) → look (at rank) ≡ view_at shift epoch is_made leaves owner home_of rank)
+        → IsHeld (is_filled leaves.agreed home_of) shift epoch.homes epoch.members
+        → stored_of look (map at epoch.members) ≡ filter (is_filled leaves.agreed home_of) epoch.homes }
 {}
 
-/// A live rank goes on with the items of the parts that it is given, and no others, by whichever test they are counted.
-pub fn a_restore_gives_what_it_goes_on_with<I>()
-    ensures { (key : I → ℕ) (test : I → Bool) (count shift : ℕ) (homes live : List ℕ) (home_of : ℕ → ℕ) (rank : ℕ) (side : Side I) → IsStrictlyIncreasing homes
-        → IsTrue (is_member homes rank) → IsTrue (is_member live rank) → IsSide key count shift homes home_of rank side
-        → count_by test (regained side live) ≡ sum_by (λ home. count_by test (saved_of side rank home)) (filter (is_given side rank live) side.homes) }
+/// A restore gives each stored part to its heir, and to no one else.
+#[tactic(auto, using(crate::specs::ViewLaws::given_seen))]
+pub fn each_stored_part_goes_to_its_heir<K, I>()
+    ensures { (time : ℕ) (homes live : List ℕ) (shift : ℕ) (leaves : Leaves K I) (home_of : K → ℕ) (rank home : ℕ) → IsStrictlyIncreasing homes
+        → IsTrue (is_member homes rank) → IsTrue (is_member live rank)
+        → is_member (filter (is_given (side_at time homes shift leaves home_of rank) rank live) homes) home
+        ≡ (is_member (filter (is_filled leaves home_of) homes) home && (heir_of homes live shift home == rank)) }
+{}
+
+/// A live rank goes on with its part of the same leaves, each owned by the heir of its home.
+#[tactic(auto, using(crate::specs::RestoreLaws::regained_is))]
+pub fn a_live_rank_goes_on_with_its_part_by_the_heirs<K, I>()
+    ensures { (kind : Kind I) (leaves : Leaves K I) → AreLeaves kind leaves → (homes live : List ℕ) (shift : ℕ) (home_of : K → ℕ) (rank : ℕ) → IsStrictlyIncreasing homes
+        → IsTrue (is_member homes rank) → IsTrue (is_member live rank) → AreAmong homes leaves home_of → (time : ℕ)
+        → regained kind (side_at time homes shift leaves home_of rank) shift live ≡ part_of leaves (λ key. heir_of homes live shift (home_of key)) rank }
+{}
+
+/// It goes on with the items of the parts that it is given, and no others, by any test that doesn't look at owners in links.
+#[tactic(auto, using(crate::specs::CoverLaws::given_back))]
+pub fn a_restore_gives_what_a_rank_goes_on_with<K, I>()
+    ensures { (kind : Kind I) (test : I → Bool) → ((f : ℕ → ℕ) (item : I) → test (kind.remap f item) ≡ test item)
+        → (time : ℕ) (homes live : List ℕ) (shift : ℕ) (leaves : Leaves K I) (home_of : K → ℕ) (rank : ℕ) → IsStrictlyIncreasing homes
+        → IsTrue (is_member homes rank) → IsTrue (is_member live rank)
+        → count_by test (regained kind (side_at time homes shift leaves home_of rank) shift live)
+        ≡ sum_by (λ home. count_by test (saved_of (side_at time homes shift leaves home_of rank) rank home)) (filter (is_given (side_at time homes shift leaves home_of rank) rank live) homes) }
+{}
+
+/// What is seen of a rank's local after a restore is told in the same way as before: the agreed snapshot and its homes stay,
+/// and the heirs are the owners. So one restore may follow another.
+pub fn a_restore_leads_to_a_told_view<K, I>()
+    ensures { (kind : Kind I) (shift : ℕ) (epoch : Epoch) (is_made : Bool) (leaves : Trio K I) (later : Leaves K I) (lives : ℕ → Bool) (owner home_of : K → ℕ) (rank : ℕ)
+        → AreLeaves kind leaves.agreed → IsStrictlyIncreasing epoch.homes → IsTrue (is_member epoch.homes rank) → IsTrue (is_member (filter lives epoch.members) rank)
+        → AreAmong epoch.homes leaves.agreed home_of
+        → restored_view kind shift (view_at shift epoch is_made leaves owner home_of rank).active rank (filter lives epoch.members)
+        ≡ view_at shift (restored_epoch lives epoch) false (begun_trio leaves.agreed later) (λ key. heir_of epoch.homes (filter lives epoch.members) shift (home_of key)) home_of rank }
+{}
+
+/// After a commit the owners are the homes of the agreed snapshot.
+#[tactic(auto, using(crate::specs::ViewLaws::kept_seen))]
+pub fn a_commit_leads_to_a_told_view<K, I>()
+    ensures { (shift steps interval : ℕ) (epoch : Epoch) (leaves : Trio K I) (later : Leaves K I) (owner home_of : K → ℕ) (rank : ℕ) → leaves.now ≡ leaves.new
+        → kept_view (view_at shift epoch true leaves owner home_of rank)
+        ≡ view_at shift (epoch_after_commit steps interval epoch) false (begun_trio leaves.new later) owner owner rank }
 {}

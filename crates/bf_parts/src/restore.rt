@@ -1,5 +1,6 @@
 //! What a rank goes on with after a restore, in one pass over both parts of its side.
-ghost use Rattle.std.specs.Prelude.{◌≡◌, ◌≤◌, ℕ, List, IfOk, OnOk, OnErr, All, map, length, take, drop, ◌++◌};
+ghost use Rattle.std.specs.Prelude.{◌≡◌, ◌≤◌, ℕ, List, IsTrue, IfOk, OnOk, OnErr, All, map, length, take, drop, ◌++◌};
+ghost use Rattle.bf_buddy.specs.Members.{is_member};
 ghost use Rattle.bf_program.specs.Restores.{heir_of};
 ghost use Rattle.bf_parts.specs.Leaves.{Kind};
 ghost use Rattle.bf_parts.specs.Merges.{merged, passed, regained};
@@ -34,6 +35,18 @@ pub trait Linked {
     ) -> Result<Self, Memory>
         requires { is_among homes self.now }
         ensures { IfOk result (λ item. item ≡ kind.remap (λ owner. heir_of homes live shift owner) self.now) };
+}
+
+/// Who goes on for an owner: itself where it lives, else its buddy among the homes.
+pub fn heir(homes: Members, live: Members, shift: u32, owner: u32) -> u32
+    requires { IsTrue (is_member homes owner) }
+    ensures { result ≡ heir_of homes live shift owner }
+{
+    if live.has(owner) {
+        owner
+    } else {
+        homes.buddy(owner, shift)
+    }
 }
 
 // How many of some items don't come after one.
