@@ -2,7 +2,7 @@
 use Rattle.std.proofs.Common.{◌≡◌, ℕ, suc, zero, ◌+◌, ◌<◌, ◌≤◌, Bool, true, false, cond, List, [], ◌∷◌, length, arith, refl, ap, sym, ◌∙◌, subst}
 use Rattle.std.proofs.Math.Bool.{and-false}
 use Rattle.std.specs.Prelude.{◌==◌, ◌||◌, ◌&&◌, filter, All}
-use Rattle.std.specs.List.{range_with_len}
+use Rattle.std.specs.List.{range_with_len, list_any}
 use Rattle.std.specs.List.Sorted.{IsStrictlyIncreasing}
 use Rattle.std.proofs.lemmas.Bool.{eqb-true, eq-eqb, and_parts, or_right}
 use Rattle.std.proofs.lemmas.Bool.Decides.{nat_tests}
@@ -57,27 +57,39 @@ filter_members p q (member ∷ members) same =
     ap (λ b. cond b (member ∷ filter p members) (filter p members)) (same member (member_head member members))
     ∙ ap (λ rest. cond (q member) (member ∷ rest) rest) (filter_members p q members (λ rank is_in. same rank (member_tail member rank members is_in)))
 
--- ranges
-pub member_range : (first count rank : ℕ) → first ≤ rank → rank < first + count → is_member (range_with_len first count) rank ≡ true
-member_range first zero rank low high = absurd (omega arith)
-member_range first (suc count) rank low high =
-    at (λ other. member_range (first + 1) count rank (above first rank low other) (omega arith)) (first == rank) refl
+-- ranges: a test that passes at some number of one
+pub range_any : (test : ℕ → Bool) (first count k : ℕ) → first ≤ k → k < first + count → test k ≡ true → list_any test (range_with_len first count) ≡ true
+range_any test first zero k low high passes = absurd (omega arith)
+range_any test first (suc count) k low high passes =
+    at (λ other. range_any test (first + 1) count k (above first k low other) (omega arith) passes) (first == k) refl
   where
     above : (a b : ℕ) → a ≤ b → (a == b) ≡ false → a + 1 ≤ b
     above a b low differ = grind (arith, nat_tests)
 
-    at : ((first == rank) ≡ false → is_member (range_with_len (first + 1) count) rank ≡ true) → (b : Bool) → (first == rank) ≡ b
-        → (b || is_member (range_with_len (first + 1) count) rank) ≡ true
-    at later true same = refl
-    at later false other = later other
+    at : ((first == k) ≡ false → list_any test (range_with_len (first + 1) count) ≡ true) → (b : Bool) → (first == k) ≡ b → (test first || list_any test (range_with_len (first + 1) count)) ≡ true
+    at later true same = let here : test first ≡ true = ap test (eqb-true first k same) ∙ passes in rw here refl
+    at later false other = or_right (test first) (list_any test (range_with_len (first + 1) count)) (later other)
+
+pub any_range : (test : ℕ → Bool) (first count : ℕ) → list_any test (range_with_len first count) ≡ true → (k : ℕ) × ((k < first + count) × (test k ≡ true))
+any_range test first zero some = absurd (cc)
+any_range test first (suc count) some = at (any_range test (first + 1) count) (test first) refl some
+  where
+    at : (list_any test (range_with_len (first + 1) count) ≡ true → (k : ℕ) × ((k < first + 1 + count) × (test k ≡ true)))
+        → (b : Bool) → test first ≡ b → (b || list_any test (range_with_len (first + 1) count)) ≡ true → (k : ℕ) × ((k < first + suc count) × (test k ≡ true))
+    at later true here _ = (first, (omega arith, here))
+    at later false other there = let found = later there in
+        let below : found.0 < first + 1 + count = found.1.0 in (found.0, (omega arith, found.1.1))
+
+-- and its members
+pub member_range : (first count rank : ℕ) → first ≤ rank → rank < first + count → is_member (range_with_len first count) rank ≡ true
+member_range first count rank low high = range_any (λ member. member == rank) first count rank low high (eq-eqb rank rank refl)
 
 pub range_within : (first count rank : ℕ) → is_member (range_with_len first count) rank ≡ true → rank < first + count
-range_within first zero rank is_in = absurd (cc)
-range_within first (suc count) rank is_in = at (range_within (first + 1) count rank) (first == rank) refl is_in
-  where
-    at : (is_member (range_with_len (first + 1) count) rank ≡ true → rank < first + 1 + count) → (b : Bool) → (first == rank) ≡ b → (b || is_member (range_with_len (first + 1) count) rank) ≡ true → rank < first + suc count
-    at later true same found = let e : first ≡ rank = eqb-true first rank same in omega arith
-    at later false other found = let below : rank < first + 1 + count = later found in omega arith
+range_within first count rank is_in =
+    let found = any_range (λ member. member == rank) first count is_in in
+    let same : found.0 ≡ rank = eqb-true found.0 rank found.1.1 in
+    let below : found.0 < first + count = found.1.0 in
+    omega arith
 
 pub range_rises : (count : ℕ) → IsStrictlyIncreasing (range_with_len 0 count)
 range_rises count = λ k below.

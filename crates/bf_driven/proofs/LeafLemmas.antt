@@ -24,8 +24,7 @@ use Rattle.bf_case.proofs.RootSteps.{roots_are}
 use Rattle.bf_block.specs.Block.{BlockValue}
 use Rattle.bf_block.specs.Runs.{never_refines, CanRun}
 use Rattle.bf_parts.specs.Bools.{iff_same}
-use Rattle.bf_parts.specs.Counts.{count_cons}
-use Rattle.bf_parts.specs.Shares.{once}
+use Rattle.bf_parts.specs.Counts.{once, count_cons}
 use Rattle.bf_forest.specs.Gathered.{leaf_of}
 use Rattle.bf_forest.specs.Leaves.{times_among, AreLeaves}
 use Rattle.bf_forest.specs.StepLaws.{root_of_leaf}

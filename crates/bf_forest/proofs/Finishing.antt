@@ -8,12 +8,9 @@ use Rattle.bf_id.specs.Id.{BlockId}
 use Rattle.bf_case.specs.declared.case.Case.{Case}
 use Rattle.bf_block.specs.declared.setup.Setup.{Setup}
 use Rattle.bf_block.specs.Setup.{case_of, every_setup_runs}
-use Rattle.bf_block.specs.Kinds.{block_kind}
 use Rattle.bf_parts.specs.Leaves.{AreAmong, part_of}
 use Rattle.bf_rounds.proofs.PointLemmas.{finishing_told}
-use Rattle.bf_stages.specs.Scenes.{telling_of}
-use Rattle.bf_stages.specs.Stages.{scene_of}
-use Rattle.bf_stages.proofs.StageLemmas.{rounds_staged}
+use Rattle.bf_stages.specs.Stages.{telling_of}
 use Rattle.bf_stages.proofs.StartLemmas.{keeps_telling}
 use Rattle.bf_forest.specs.declared.local.ForestLocal.{ForestLocal}
 use Rattle.bf_forest.specs.declared.stage.Stage.{Stage}
@@ -62,8 +59,8 @@ pub finishing_ready : (setup : Setup) (epoch : Epoch) (round time : ℕ) (local 
 unfolding IsGood stage_of
 finishing_ready setup epoch round time local at stage =
     let c : Case = case_of setup in
-    let keeps = keeps_telling forest (scene_of forest_staging) block_kind setup pieces (rounds_staged forest forest_staging block_kind setup (staged setup) pieces (has_stages setup)) in
-    let told = finishing_told forest (telling_of forest (scene_of forest_staging)) setup keeps (lawful_forest setup).goods epoch round local at in
+    let keeps = keeps_telling forest forest_staging setup (staged setup) pieces (has_stages setup) in
+    let told = finishing_told forest (telling_of forest forest_staging) setup keeps (lawful_forest setup).goods epoch round local at in
     let its = step_time epoch round time stage in
     let whole : epoch.time + span epoch ≡ epoch.target = whole_span setup epoch told.fits.runs in
     let ends : epoch.target ≤ c.steps = ends_within setup epoch told.fits.runs in

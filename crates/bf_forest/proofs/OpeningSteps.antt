@@ -9,7 +9,7 @@ use Rattle.bf_buddy.specs.Members.{is_member}
 use Rattle.bf_case.specs.declared.case.Case.{Case}
 use Rattle.bf_case.specs.Case.{first_rank_of}
 use Rattle.bf_block.specs.Block.{BlockValue, initial_block}
-use Rattle.bf_parts.specs.Seats.{range_has, range_within}
+use Rattle.bf_buddy.proofs.MemberLemmas.{range_has, range_within}
 use Rattle.bf_forest.specs.declared.local.ForestLocal.{ForestLocal}
 use Rattle.bf_forest.specs.Meanings.{first_blocks, opened, unfilled}
 

@@ -33,11 +33,10 @@ use Rattle.bf_case.proofs.TestLemmas.{Contains-filter, holds_decides}
 use Rattle.bf_block.specs.Block.{BlockValue, initial_block, before_regrid}
 use Rattle.bf_block.specs.Kinds.{block_kind}
 use Rattle.bf_block.specs.Runs.{never_refines, CanRun}
-use Rattle.bf_parts.specs.Counts.{count_cons}
+use Rattle.bf_parts.specs.Counts.{once, count_cons}
 use Rattle.bf_parts.specs.Leaves.{AreLeaves, AreAmong, part_of, is_filled}
 use Rattle.bf_parts.specs.MergeLaws.{map_twice}
-use Rattle.bf_parts.specs.Seats.{all_members, range_within, range_has, member_filter}
-use Rattle.bf_parts.specs.Shares.{once}
+use Rattle.bf_buddy.proofs.MemberLemmas.{all_members, range_within, range_has, member_filter}
 use Rattle.bf_forest.specs.Gathered.{cells_or, advanced, gathered, stepped_among}
 use Rattle.bf_forest.specs.Meanings.{first_blocks}
 use Rattle.bf_forest.specs.ModelBlocks.{block_at, blocks_at, first_home, IsBlockAt}

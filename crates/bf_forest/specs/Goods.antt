@@ -7,8 +7,7 @@ use Rattle.bf_block.specs.declared.setup.Setup.{Setup}
 use Rattle.bf_parts.specs.Leaves.{AreAmong, part_of, side_at}
 use Rattle.bf_parts.specs.Sides.{bare}
 use Rattle.bf_rounds.specs.Canonical.{IsTold}
-use Rattle.bf_stages.specs.Scenes.{telling_of}
-use Rattle.bf_stages.specs.Stages.{scene_of}
+use Rattle.bf_stages.specs.Stages.{telling_of}
 use Rattle.bf_forest.specs.declared.local.ForestLocal.{ForestLocal}
 use Rattle.bf_forest.specs.Meanings.{forest}
 use Rattle.bf_forest.specs.ModelBlocks.{blocks_at}
@@ -17,7 +16,7 @@ use Rattle.bf_forest.specs.Staging.{forest_staging}
 
 -- the members' locals at the beginning of a round: those that are told by who owns which block and who has which at home
 unfoldable pub IsGood : Setup → Epoch → (round : ℕ) → List ForestLocal → Type 0
-IsGood setup epoch round locals = IsTold (telling_of forest (scene_of forest_staging)) setup epoch round locals
+IsGood setup epoch round locals = IsTold (telling_of forest forest_staging) setup epoch round locals
 
 -- a rank's local: its blocks of the model at the round's time, by rising id; its side of the agreed snapshot, and once all rounds are done its side of
 -- the new one

@@ -6,6 +6,7 @@ use Rattle.std.proofs.lemmas.Bool.{cases_lt, cases_order}
 use Rattle.std.proofs.lemmas.List.{length-map, get_or-map}
 use Rattle.std.proofs.lemmas.List.Elements.{All-nil, All-append, All-weaker}
 use Rattle.bf_id.specs.Id.{BlockId, root_id, id_eq}
+use Rattle.bf_buddy.proofs.MemberLemmas.{member_filter}
 use Rattle.bf_buddy.specs.Members.{is_member}
 use Rattle.bf_buddy.specs.Losses.{first_lost_of}
 use Rattle.bf_program.specs.declared.epoch.Epoch.{Epoch}
@@ -18,16 +19,12 @@ use Rattle.bf_block.specs.Kinds.{block_kind}
 use Rattle.bf_block.specs.Setup.{case_of, every_setup_runs}
 use Rattle.bf_block.specs.Runs.{CanRun}
 use Rattle.bf_block.specs.Block.{BlockValue}
-use Rattle.bf_parts.specs.CoverLaws.{spread_counted}
 use Rattle.bf_parts.specs.Leaves.{Leaves, AreAmong, part_of, is_filled, side_at}
-use Rattle.bf_parts.specs.Seats.{member_filter}
-use Rattle.bf_parts.specs.SpreadLaws.{owner_filled}
+use Rattle.bf_parts.specs.StockLaws.{owner_filled}
 use Rattle.bf_parts.specs.Sides.{bare}
 use Rattle.bf_parts.specs.Spreads.{view_at}
-use Rattle.bf_stages.specs.Scenes.{World, IsPlaced, is_made as is_made_at, trio_told, local_told}
-use Rattle.bf_stages.specs.Stages.{scene_of}
-use Rattle.bf_stages.proofs.StageLemmas.{looks_staged, epochs_staged}
-use Rattle.bf_stages.proofs.StartLemmas.{spread_told, stored_told, regained_world, regained_placed, restored_told}
+use Rattle.bf_stages.specs.Stages.{World, IsPlaced, local_told}
+use Rattle.bf_stages.proofs.StartLemmas.{made_is, stored_told, counted_told, regained_world, regained_placed, restored_told}
 use Rattle.bf_forest.specs.declared.local.ForestLocal.{ForestLocal}
 use Rattle.bf_forest.specs.BlockLaws.{part_are, one_id, some_leaf}
 use Rattle.bf_forest.specs.ForestLaws.{sides, staged, spans, whole_span, lawful_forest}
@@ -58,15 +55,17 @@ abbrev pub ForestWorld : Type 0
 ForestWorld = World BlockId
 
 abbrev pub Placed : Setup → Epoch → (round : ℕ) → ForestWorld → Type 0
-Placed setup epoch round world = IsPlaced forest (scene_of forest_staging) setup epoch round world
+Placed setup epoch round world = IsPlaced forest forest_staging setup epoch round world
 
 -- a local that is told, in plain words
 told_is : (setup : Setup) (epoch : Epoch) (round : ℕ) (world : ForestWorld) → Runs (case_of setup) epoch → (rank : ℕ)
-    → local_told forest (scene_of forest_staging) setup epoch round world rank ≡ local_at (case_of setup) epoch round world.owner world.home rank
+    → local_told forest forest_staging setup epoch round world rank ≡ local_at (case_of setup) epoch round world.owner world.home rank
 unfolding stage_of
 told_is setup epoch round world runs rank =
     let c : Case = case_of setup in
-    ap (λ (ls : Leaves BlockId BlockValue). with_heard (view_at c.shift epoch (not (nat_lt round (rounds_of epoch)))
+    ap (λ (b : Bool). with_heard (view_at c.shift epoch b (record { now = leaves_in c epoch (stage_of epoch round); agreed = blocks_at c epoch.time; new = blocks_at c epoch.target })
+    world.owner world.home rank) []) (made_is forest forest_staging setup (staged setup) epoch round)
+    ∙ ap (λ (ls : Leaves BlockId BlockValue). with_heard (view_at c.shift epoch (not (nat_lt round (rounds_of epoch)))
     (record { now = ls; agreed = blocks_at c epoch.time; new = blocks_at c epoch.target }) world.owner world.home rank) []) (leaves_now c epoch round (whole_span setup epoch runs))
     ∙ at (nat_lt round (rounds_of epoch))
   where
@@ -78,7 +77,7 @@ told_is setup epoch round world runs rank =
 
 -- so is each good vector
 locals_are : (setup : Setup) (epoch : Epoch) (round : ℕ) (world : ForestWorld) (ranks : List ℕ) → Runs (case_of setup) epoch
-    → map (local_told forest (scene_of forest_staging) setup epoch round world) ranks ≡ map (local_at (case_of setup) epoch round world.owner world.home) ranks
+    → map (local_told forest forest_staging setup epoch round world) ranks ≡ map (local_at (case_of setup) epoch round world.owner world.home) ranks
 locals_are setup epoch round world ranks runs = ap (λ (f : ℕ → ForestLocal). map f ranks) (λ i rank. told_is setup epoch round world runs rank i)
 
 owned_now : (setup : Setup) (epoch : Epoch) (round : ℕ) (world : ForestWorld) → Placed setup epoch round world → AreAmong epoch.members (blocks_at (case_of setup) (time_at epoch round)) world.owner
@@ -120,12 +119,10 @@ unfolding IsGood stage_of
 counted setup epoch round locals good test =
     let c : Case = case_of setup in
     let world : ForestWorld = good.world in
-    let spread = spread_told forest (scene_of forest_staging) block_kind setup (looks_staged forest forest_staging block_kind setup (staged setup) (sides setup)) epoch round world good.fits in
     ap (λ (ls : List ForestLocal). count_by (λ (b : BlockValue). test b.id) (flat_map (λ (local : ForestLocal). local.blocks) ls)) good.are
-    ∙ spread_counted view_of c.shift epoch (is_made_at forest (scene_of forest_staging) setup epoch round) (trio_told forest (scene_of forest_staging) setup epoch round)
-    (map (local_told forest (scene_of forest_staging) setup epoch round world) epoch.members) (λ (b : BlockValue). test b.id) spread
-    ∙ ap (λ (ls : Leaves BlockId BlockValue). count_by (λ key. test (ls.item spread.owner key).id) ls.keys) (leaves_now c epoch round (whole_span setup epoch good.fits.runs))
-    ∙ ids_counted c (time_at epoch round) spread.owner test
+    ∙ counted_told forest forest_staging block_kind setup (sides setup) epoch round world (λ (b : BlockValue). test b.id) good.fits
+    ∙ ap (λ (ls : Leaves BlockId BlockValue). count_by (λ key. test (ls.item world.owner key).id) ls.keys) (leaves_now c epoch round (whole_span setup epoch good.fits.runs))
+    ∙ ids_counted c (time_at epoch round) world.owner test
 
 pub good_leaves : (setup : Setup) (epoch : Epoch) (round : ℕ) (locals : List ForestLocal) → IsGood setup epoch round locals
     → AreLeaves (model (case_of setup) (time_at epoch round)) (flat_map (λ (local : ForestLocal). local.blocks) locals)
@@ -178,13 +175,10 @@ pub all_regained : (setup : Setup) (epoch : Epoch) (round : ℕ) (locals : List 
     (restored_locals forest setup epoch lives locals)
 unfolding IsGood
 all_regained setup epoch round locals lives good none =
-    let scene = scene_of forest_staging in
-    let looks = looks_staged forest forest_staging block_kind setup (staged setup) (sides setup) in
-    let epochs = epochs_staged forest forest_staging block_kind setup (staged setup) (spans setup) in
-    let after : ForestWorld = regained_world forest scene block_kind setup looks epochs epoch lives good.world in
-    let none_told : first_lost_of epoch.homes (forest.stored (map (local_told forest scene setup epoch round good.world) epoch.members)) (filter lives epoch.members) (forest.shift setup) ≡ None =
+    let after : ForestWorld = regained_world forest forest_staging block_kind setup (staged setup) (sides setup) (spans setup) epoch lives good.world in
+    let none_told : first_lost_of epoch.homes (forest.stored (map (local_told forest forest_staging setup epoch round good.world) epoch.members)) (filter lives epoch.members) (forest.shift setup) ≡ None =
     ap (λ (ls : List ForestLocal). first_lost_of epoch.homes (forest.stored ls) (filter lives epoch.members) (forest.shift setup)) (sym good.are) ∙ none in
-    let placed : Placed setup (restored_epoch lives epoch) 0 after = regained_placed forest scene block_kind setup looks epochs epoch round good.world lives good.fits none_told in (
+    let placed : Placed setup (restored_epoch lives epoch) 0 after = regained_placed forest forest_staging block_kind setup (staged setup) (sides setup) (spans setup) epoch round good.world lives good.fits none_told in (
       good.world.owner,
       good.world.home,
       record {
@@ -195,7 +189,7 @@ all_regained setup epoch round locals lives good none =
       record {
         owned = owned_now setup (restored_epoch lives epoch) 0 after placed;
         housed = good.fits.housed;
-        are = ap (restored_locals forest setup epoch lives) good.are ∙ restored_told forest scene block_kind setup looks epochs epoch round good.world lives good.fits
+        are = ap (restored_locals forest setup epoch lives) good.are ∙ restored_told forest forest_staging block_kind setup (staged setup) (sides setup) (spans setup) epoch round good.world lives good.fits
             ∙ locals_are setup (restored_epoch lives epoch) 0 after (filter lives epoch.members) placed.runs;
       },
     )
@@ -210,8 +204,6 @@ pub some_home : (setup : Setup) (epoch : Epoch) (round : ℕ) (locals : List For
 unfolding IsGood
 some_home setup epoch round locals good =
     let c : Case = case_of setup in
-    let scene = scene_of forest_staging in
-    let looks = looks_staged forest forest_staging block_kind setup (staged setup) (sides setup) in
     let leaves : Leaves BlockId BlockValue = blocks_at c epoch.time in
     let some : 0 < length leaves.keys = some_leaf c epoch.time (every_setup_runs setup) in
     let i : BlockId = slice_index_or leaves.keys 0 (root_id 0) in
@@ -221,6 +213,6 @@ some_home setup epoch round locals good =
     let both : (is_member epoch.homes home && is_filled leaves good.world.home home) ≡ true = rw (is_home, full) refl in (
       home,
       ap (λ (ls : List ForestLocal). is_member (forest.stored ls) home) good.are
-          ∙ ap (λ homes. is_member homes home) (stored_told forest scene block_kind setup looks epoch round good.world good.fits)
+          ∙ ap (λ homes. is_member homes home) (stored_told forest forest_staging block_kind setup (sides setup) epoch round good.world good.fits)
           ∙ member_filter (is_filled leaves good.world.home) epoch.homes home ∙ both,
     )

@@ -17,11 +17,11 @@ use Rattle.bf_parts.specs.Leaves.{Leaves, AreAmong, part_of}
 use Rattle.bf_parts.specs.Spreads.{view_at}
 use Rattle.bf_parts.specs.Views.{View}
 use Rattle.bf_rounds.specs.Gathering.{AreMutual, Gathers, gathered}
-use Rattle.bf_stages.specs.Leading.{LeadsBy, IsPartOf, Weighs, as_delivery}
-use Rattle.bf_stages.specs.Scenes.{World}
+use Rattle.bf_rounds.specs.Delivering.{as_delivery}
+use Rattle.bf_rounds.specs.Leading.{LeadsBy, IsPartOf, Weighs}
 use Rattle.bf_stages.specs.Snapshots.{sees_others, snapshot_play, snapshot_course, heard_part}
-use Rattle.bf_stages.specs.Stages.{Chain, Follows, HasStages, IsPlacedAt}
-use Rattle.bf_stages.proofs.LeadLemmas.{gathers_by, part_by, weighs_conserves}
+use Rattle.bf_stages.specs.Stages.{World, Chain, Follows, HasStages, IsPlacedAt}
+use Rattle.bf_rounds.proofs.LeadLemmas.{gathers_by, part_by, weighs_conserves}
 use Rattle.bf_stages.proofs.SnapshotLemmas.{snapshot_by, others_sight}
 use Rattle.bf_forest.specs.declared.local.ForestLocal.{ForestLocal}
 use Rattle.bf_forest.specs.declared.message.ForestMessage.{ForestMessage}

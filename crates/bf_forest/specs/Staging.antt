@@ -13,10 +13,10 @@ use Rattle.bf_rounds.specs.Courses.{Course}
 use Rattle.bf_rounds.specs.Gathering.{Play, gathering}
 use Rattle.bf_parts.specs.Leaves.{Leaves}
 use Rattle.bf_parts.specs.Spreads.{Trio, view_at}
-use Rattle.bf_stages.specs.Scenes.{World}
-use Rattle.bf_stages.specs.Leading.{as_delivery, alone, lifted}
+use Rattle.bf_rounds.specs.Delivering.{as_delivery}
+use Rattle.bf_rounds.specs.Leading.{alone, lifted}
 use Rattle.bf_stages.specs.Snapshots.{sees_others, snapshot_course}
-use Rattle.bf_stages.specs.Stages.{Staging}
+use Rattle.bf_stages.specs.Stages.{World, Staging}
 use Rattle.bf_forest.specs.declared.local.ForestLocal.{ForestLocal}
 use Rattle.bf_forest.specs.declared.message.ForestMessage.{ForestMessage}
 use Rattle.bf_forest.specs.declared.message.ForestMessage.TheVariants.{Step as StepMessage, Snapshot as SnapshotMessage}

@@ -19,9 +19,9 @@ use Rattle.bf_parts.specs.Merges.{regained}
 use Rattle.bf_parts.specs.Sides.{saved_of}
 use Rattle.bf_parts.specs.Spreads.{restored_view}
 use Rattle.bf_parts.specs.Views.{View}
-use Rattle.bf_stages.proofs.StartLemmas.{told_local, IsPlaced, follows_at, keeps_telling}
+use Rattle.bf_stages.proofs.StartLemmas.{follows_at, keeps_telling}
 use Rattle.bf_stages.proofs.StoredLemmas.{reads_told}
-use Rattle.bf_stages.specs.Stages.{World, Staging, stage_at, view_of, telling_of, IsStaged, HasStages, HasSides, HasPieces}
+use Rattle.bf_stages.specs.Stages.{World, Staging, stage_at, view_of, IsPlaced, local_told, telling_of, IsStaged, HasStages, HasSides, HasPieces}
 
 module _ {S K I L N M T G B U : Type 0} (m : Meanings S L M T (Side I)) (st : Staging S K I L N M G) (kind : Kind I) (setup : S) (staged : IsStaged m st setup) (sides : HasSides m st kind setup)
     (regions : Regions S L M T (Side I) B U) (stages : HasStages m st setup regions) (box : I → B) (cargo : L → List B) (pieces : HasPieces m st kind setup regions box cargo) where
@@ -34,11 +34,8 @@ module _ {S K I L N M T G B U : Type 0} (m : Meanings S L M T (Side I)) (st : St
   abbrev weigh_message : U → M → ℕ
   weigh_message unit msg = times regions (regions.of_message msg) unit
 
-  abbrev told : Epoch → (round : ℕ) → World K → (rank : ℕ) → L
-  told = told_local m st kind setup staged
-
   keeps : KeepsTelling m (telling_of m st) setup
-  keeps = keeps_telling m st kind setup staged regions stages
+  keeps = keeps_telling m st setup staged regions stages
 
   -- what a local weighs
   boxes_weigh : (unit : U) (items : List I) → times regions (map box items) unit ≡ count_by (covers unit) items
@@ -59,7 +56,7 @@ module _ {S K I L N M T G B U : Type 0} (m : Meanings S L M T (Side I)) (st : St
       no_more n = omega arith
 
   -- a told local has no cargo
-  told_cargo : (epoch : Epoch) (round : ℕ) (world : World K) (rank : ℕ) → IsPlaced m st kind setup staged epoch round world → cargo (told epoch round world rank) ≡ []
+  told_cargo : (epoch : Epoch) (round : ℕ) (world : World K) (rank : ℕ) → IsPlaced m st setup epoch round world → cargo (local_told m st setup epoch round world rank) ≡ []
   told_cargo epoch round world rank placed = pieces.no_cargo epoch (stage_at st setup epoch round) (view_of m st setup epoch (stage_at st setup epoch round) world rank) world.owner rank placed.runs
 
   its_cargo : (epoch : Epoch) (round : ℕ) (locals : List L) (rank : ℕ) (local : L) → IsTold (telling_of m st) setup epoch round locals
@@ -68,14 +65,14 @@ module _ {S K I L N M T G B U : Type 0} (m : Meanings S L M T (Side I)) (st : St
       ap cargo (told_its m (telling_of m st) setup keeps epoch round locals rank local is its).1 ∙ told_cargo epoch round is.world rank is.fits
 
   -- together told locals hold each unit once
-  whole_at : (epoch : Epoch) (round : ℕ) (world : World K) (unit : U) → IsPlaced m st kind setup staged epoch round world → IsTrue (regions.is_in_domain setup unit)
-      → times regions (flat_map regions.of_local (map (told epoch round world) epoch.members)) unit ≡ 1
+  whole_at : (epoch : Epoch) (round : ℕ) (world : World K) (unit : U) → IsPlaced m st setup epoch round world → IsTrue (regions.is_in_domain setup unit)
+      → times regions (flat_map regions.of_local (map (local_told m st setup epoch round world) epoch.members)) unit ≡ 1
   whole_at epoch round world unit placed within =
       let stage : G = stage_at st setup epoch round in
-      count_told (λ b. regions.holds b unit) regions.of_local (told epoch round world)
+      count_told (λ b. regions.holds b unit) regions.of_local (local_told m st setup epoch round world)
       (λ rank. count_by (covers unit) (part_of (st.leaves setup epoch stage) world.owner rank)) epoch.members
       (λ rank is_in.
-      weighs_items unit (told epoch round world rank) (told_cargo epoch round world rank placed)
+      weighs_items unit (local_told m st setup epoch round world rank) (told_cargo epoch round world rank placed)
       ∙ ap (λ (v : View I). count_by (covers unit) v.items) (sides.seen (view_of m st setup epoch stage world rank) (st.work setup epoch stage world.owner rank)))
       ∙ parts_counted (st.leaves setup epoch stage) world.owner (covers unit) epoch.members placed.held.members_rise placed.owned
       ∙ pieces.once epoch stage world.owner unit placed.runs within
@@ -120,14 +117,14 @@ module _ {S K I L N M T G B U : Type 0} (m : Meanings S L M T (Side I)) (st : St
   pieces_kept goods = record {
     out = λ epoch round to local unit is.
         let at = sending_told m (telling_of m st) setup keeps goods epoch round to local is in
-        let follows = follows_at m st kind setup staged regions stages epoch round at.fits.runs at.within in
+        let follows = follows_at m st setup staged regions stages epoch round at.fits.runs at.within in
         let leads = keeps.leads epoch round at.world at.fits at.within in
         ap (λ (p : L × M). weigh unit p.0 + weigh_message unit p.1) (ap (λ (l : L). m.out setup l epoch round to) at.is ∙ leads.out at.rank to at.done at.rest at.member at.next)
         ∙ (follows.conserves at.world unit at.fits).out at.rank to at.done at.rest at.member at.next
         ∙ ap (weigh unit) (sym at.is);
     take = λ epoch round peer msg local unit is.
         let at = receiving_told m (telling_of m st) setup keeps goods epoch round peer msg local is in
-        let follows = follows_at m st kind setup staged regions stages epoch round at.fits.runs at.within in
+        let follows = follows_at m st setup staged regions stages epoch round at.fits.runs at.within in
         let leads = keeps.leads epoch round at.world at.fits at.within in
         let course = st.course setup epoch (stage_at st setup epoch round) at.world in
         ap (λ (l : L). weigh unit (m.take setup l epoch round peer msg)) at.is
@@ -138,7 +135,7 @@ module _ {S K I L N M T G B U : Type 0} (m : Meanings S L M T (Side I)) (st : St
         ∙ ap (λ (msg : M). weigh unit local + weigh_message unit msg) (sym at.says);
     finish = λ epoch round local unit is.
         let at = finishing_told m (telling_of m st) setup keeps goods epoch round local is in
-        let follows = follows_at m st kind setup staged regions stages epoch round at.fits.runs at.within in
+        let follows = follows_at m st setup staged regions stages epoch round at.fits.runs at.within in
         let leads = keeps.leads epoch round at.world at.fits at.within in
         ap (λ (l : L). weigh unit (m.finish setup l epoch round)) at.is
         ∙ ap (weigh unit) (leads.finish at.rank at.member)

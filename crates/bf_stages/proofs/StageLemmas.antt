@@ -178,7 +178,7 @@ module _ {S K I L N M T G : Type 0} (m : Meanings S L M T (Side I)) (st : Stagin
     pub laws_staged : HasSides m st kind setup → HasSpans m st kind setup → HasStages m st setup regions → HasPieces m st kind setup regions box cargo → KeepsLimits m setup
         → Laws m regions (IsTold (telling_of m st)) setup
     laws_staged sides spans stages pieces limits =
-        let keeps : KeepsTelling m (telling_of m st) setup = keeps_telling m st kind setup staged regions stages in
+        let keeps : KeepsTelling m (telling_of m st) setup = keeps_telling m st setup staged regions stages in
         let goods : KeepsGood m (IsTold (telling_of m st)) setup = goods_told m (telling_of m st) setup keeps (keeps_starts m st kind setup staged sides spans) in
         record {
           limits = limits;

@@ -1,9 +1,10 @@
 -- What a restore reads, which homes are stored, and to whom a restore gives their parts, in a program of stages.
 use Rattle.std.proofs.Common.{◌≡◌, ℕ, ◌+◌, ◌<◌, Bool, true, false, cond, List, [], ◌∷◌, map, filter, arith, refl, sym, ap, ◌∙◌, subst}
-use Rattle.std.specs.Prelude.{◌==◌, ◌&&◌, IsTrue, All}
+use Rattle.std.specs.Prelude.{◌==◌, ◌&&◌, not, nat_lt, IsTrue, All}
 use Rattle.std.specs.List.{range_with_len, zip}
 use Rattle.std.specs.List.Sorted.{IsStrictlyIncreasing}
 use Rattle.std.specs.Map.{keys_of}
+use Rattle.std.proofs.lemmas.Bool.Decides.{nat_tests}
 use Rattle.std.proofs.lemmas.List.Kept.{IsStrictlyIncreasing-filter}
 use Rattle.bf_buddy.proofs.MemberLemmas.{member_head, member_tail, member_filter_from, member_filter_parts, all_members, range_within}
 use Rattle.bf_buddy.specs.Losses.{first_lost_of}
@@ -16,7 +17,6 @@ use Rattle.bf_program.specs.Meanings.{Meanings, Regions}
 use Rattle.bf_program.specs.Restores.{heir_of, restored_epoch, restored_locals, filled_members}
 use Rattle.bf_rounds.proofs.CourseLemmas.{next_is}
 use Rattle.bf_rounds.proofs.PointLemmas.{told_its}
-use Rattle.bf_rounds.proofs.StartLemmas.{kept_told, restored_told}
 use Rattle.bf_rounds.specs.Canonical.{IsTold, KeepsTelling}
 use Rattle.bf_parts.specs.declared.side.Side.{Side}
 use Rattle.bf_parts.specs.Leaves.{Kind, is_filled, side_at}
@@ -25,9 +25,8 @@ use Rattle.bf_parts.specs.Spreads.{view_at, restored_view}
 use Rattle.bf_parts.specs.StockLaws.{part_filled}
 use Rattle.bf_parts.specs.ViewLaws.{given_seen}
 use Rattle.bf_parts.specs.Views.{View}
-use Rattle.bf_stages.proofs.ChainLemmas.{beyond}
-use Rattle.bf_stages.proofs.StartLemmas.{told_local, keeps_telling, stored_told, first_world, first_placed, opening_told, kept_world, kept_placed, kept_is, regained_world, regained_placed, regained_local}
-use Rattle.bf_stages.specs.Stages.{World, Staging, stage_at, trio_of, view_of, after_stage, telling_of, IsStaged, HasStages, HasSides, HasSpans}
+use Rattle.bf_stages.proofs.StartLemmas.{made_is, keeps_telling, stored_told, first_world, first_placed, opening_told, kept_world, kept_placed, kept_told, regained_world, regained_placed, restored_told}
+use Rattle.bf_stages.specs.Stages.{World, Staging, stage_at, trio_of, view_of, after_stage, local_told, telling_of, IsStaged, HasStages, HasSides, HasSpans}
 
 -- the members whose part of the new snapshot has an item
 filled_told : {S L M T R : Type 0} (m : Meanings S L M T R) (test : ℕ → Bool) (at : ℕ → L) (members : List ℕ) → ((rank : ℕ) → is_member members rank ≡ true → m.filled (at rank) ≡ test rank)
@@ -48,6 +47,9 @@ stored_homes : (stored homes : List ℕ) (test : ℕ → Bool) → stored ≡ fi
 stored_homes stored homes test same up =
     subst (λ (s : List ℕ). IsStrictlyIncreasing s × All (λ home. IsTrue (is_member homes home)) s) (sym same)
     (IsStrictlyIncreasing-filter test homes up, all_members (λ home. IsTrue (is_member homes home)) (filter test homes) (λ home is_in. (member_filter_parts test homes home is_in).0))
+
+late : (rounds : ℕ) → not (nat_lt rounds rounds) ≡ true
+late rounds = grind (arith, nat_tests)
 
 module _ {S K I L N M T G : Type 0} (m : Meanings S L M T (Side I)) (st : Staging S K I L N M G) (kind : Kind I) (setup : S) (staged : IsStaged m st setup) (sides : HasSides m st kind setup) where
   -- what a restore reads changes by a commit alone
@@ -76,19 +78,19 @@ module _ {S K I L N M T G : Type 0} (m : Meanings S L M T (Side I)) (st : Stagin
 
   -- a told local has its side of the agreed snapshot
   pub reads_told : (epoch : Epoch) (round : ℕ) (world : World K) (rank : ℕ)
-      → m.reads (told_local m st kind setup staged epoch round world rank) ≡ side_at epoch.time epoch.homes (m.shift setup) (st.at setup epoch.time) world.home rank
+      → m.reads (local_told m st setup epoch round world rank) ≡ side_at epoch.time epoch.homes (m.shift setup) (st.at setup epoch.time) world.home rank
   reads_told epoch round world rank =
       let stage : G = stage_at st setup epoch round in
-      sides.reads (told_local m st kind setup staged epoch round world rank)
+      sides.reads (local_told m st setup epoch round world rank)
       ∙ ap (λ (v : View I). v.active) (sides.seen (view_of m st setup epoch stage world rank) (st.work setup epoch stage world.owner rank))
 
   module _ {B U : Type 0} (regions : Regions S L M T (Side I) B U) (stages : HasStages m st setup regions) where
     keeps : KeepsTelling m (telling_of m st) setup
-    keeps = keeps_telling m st kind setup staged regions stages
+    keeps = keeps_telling m st setup staged regions stages
 
     stored_by : (epoch : Epoch) (round : ℕ) (locals : List L) (told : IsTold (telling_of m st) setup epoch round locals)
         → m.stored locals ≡ filter (is_filled (st.at setup epoch.time) told.world.home) epoch.homes
-    stored_by epoch round locals told = ap m.stored told.are ∙ stored_told m st kind setup staged sides epoch round told.world told.fits
+    stored_by epoch round locals told = ap m.stored told.are ∙ stored_told m st kind setup sides epoch round told.world told.fits
 
     -- to whom a restore gives which parts
     pub given_kept : KeepsParts m (IsTold (telling_of m st)) setup
@@ -105,11 +107,11 @@ module _ {S K I L N M T G : Type 0} (m : Meanings S L M T (Side I)) (st : Stagin
 
     module _ (spans : HasSpans m st kind setup) where
       -- a rank's part of the new snapshot has an item where it owns a leaf
-      filled_is : (epoch : Epoch) (world : World K) (rank : ℕ) → m.filled (told_local m st kind setup staged epoch (m.rounds setup epoch) world rank) ≡ is_filled (st.at setup epoch.target) world.owner rank
+      filled_is : (epoch : Epoch) (world : World K) (rank : ℕ) → m.filled (local_told m st setup epoch (m.rounds setup epoch) world rank) ≡ is_filled (st.at setup epoch.target) world.owner rank
       filled_is epoch world rank =
           let stage : G = stage_at st setup epoch (m.rounds setup epoch) in
-          let made : st.made stage ≡ true = ap st.made (beyond (st.stages setup epoch) st.last (m.rounds setup epoch) (omega (arith, staged.rounds epoch))) ∙ staged.made in
-          sides.filled (told_local m st kind setup staged epoch (m.rounds setup epoch) world rank)
+          let made : st.made stage ≡ true = made_is m st setup staged epoch (m.rounds setup epoch) ∙ late (m.rounds setup epoch) in
+          sides.filled (local_told m st setup epoch (m.rounds setup epoch) world rank)
           ∙ ap (λ (v : View I). has_items v.spare.own) (sides.seen (view_of m st setup epoch stage world rank) (st.work setup epoch stage world.owner rank))
           ∙ ap (λ (b : Bool). has_items (view_at (m.shift setup) epoch b (trio_of m st setup epoch stage) world.owner world.home rank).spare.own) made
           ∙ part_filled (st.at setup epoch.target) world.owner rank
@@ -124,7 +126,7 @@ module _ {S K I L N M T G : Type 0} (m : Meanings S L M T (Side I)) (st : Stagin
             range_within 0 (m.ranks setup) rank (member_filter_parts (is_filled (st.at setup 0) spans.home_of) (range_with_len 0 (m.ranks setup)) rank is_in).0 in
             omega arith));
         opening = ap m.stored (opening_told m st kind setup staged sides spans)
-            ∙ stored_told m st kind setup staged sides (first_epoch (m.ranks setup) (m.steps setup) (m.interval setup)) 0 (first_world m st kind setup staged sides spans)
+            ∙ stored_told m st kind setup sides (first_epoch (m.ranks setup) (m.steps setup) (m.interval setup)) 0 (first_world m st kind setup staged sides spans)
             (first_placed m st kind setup staged sides spans)
             ∙ sym spans.laid;
         homes = λ epoch round locals told.
@@ -133,27 +135,25 @@ module _ {S K I L N M T G : Type 0} (m : Meanings S L M T (Side I)) (st : Stagin
             let stage : G = stage_at st setup epoch round in
             let after : World K = after_stage m st setup epoch stage told.world in
             ap (λ (ls : List L). m.stored (next_locals m setup epoch round ls)) told.are
-            ∙ ap m.stored (next_is m setup epoch round (st.course setup epoch stage told.world) (told_local m st kind setup staged epoch round told.world)
-            (told_local m st kind setup staged epoch (round + 1) after) (keeps.leads epoch round told.world told.fits within))
-            ∙ stored_told m st kind setup staged sides epoch (round + 1) after (keeps.fits epoch round told.world told.fits within)
+            ∙ ap m.stored (next_is m setup epoch round (st.course setup epoch stage told.world) (local_told m st setup epoch round told.world)
+            (local_told m st setup epoch (round + 1) after) (keeps.leads epoch round told.world told.fits within))
+            ∙ stored_told m st kind setup sides epoch (round + 1) after (keeps.fits epoch round told.world told.fits within)
             ∙ sym (stored_by epoch round locals told);
         keep = λ epoch locals told goes_on.
             let after : Epoch = epoch_after_commit (m.steps setup) (m.interval setup) epoch in
             let world : World K = told.world in
             ap (λ (ls : List L). m.stored (map m.keep ls)) told.are
-            ∙ ap m.stored (kept_told m setup epoch.members (told_local m st kind setup staged epoch (m.rounds setup epoch) world)
-            (told_local m st kind setup staged after 0 (kept_world m st kind setup staged sides spans world)) (λ rank is_in. kept_is m st kind setup staged sides spans epoch world rank told.fits goes_on))
-            ∙ stored_told m st kind setup staged sides after 0 (kept_world m st kind setup staged sides spans world) (kept_placed m st kind setup staged sides spans epoch world told.fits goes_on)
-            ∙ sym (filled_told m (is_filled (st.at setup epoch.target) world.owner) (told_local m st kind setup staged epoch (m.rounds setup epoch) world) epoch.members
+            ∙ ap m.stored (kept_told m st kind setup staged sides spans epoch world told.fits goes_on)
+            ∙ stored_told m st kind setup sides after 0 (kept_world m st kind setup staged sides spans world) (kept_placed m st kind setup staged sides spans epoch world told.fits goes_on)
+            ∙ sym (filled_told m (is_filled (st.at setup epoch.target) world.owner) (local_told m st setup epoch (m.rounds setup epoch) world) epoch.members
             (λ rank is_in. filled_is epoch world rank))
             ∙ ap (filled_members m epoch.members) (sym told.are);
         restore = λ epoch round locals lives told none.
             let world : World K = told.world in
             let regained : World K = regained_world m st kind setup staged sides spans epoch lives world in
             ap (λ (ls : List L). m.stored (restored_locals m setup epoch lives ls)) told.are
-            ∙ ap m.stored (restored_told m setup epoch lives (told_local m st kind setup staged epoch round world) (told_local m st kind setup staged (restored_epoch lives epoch) 0 regained)
-            (λ rank is_in. regained_local m st kind setup staged sides spans epoch round world lives rank told.fits is_in))
-            ∙ stored_told m st kind setup staged sides (restored_epoch lives epoch) 0 regained
+            ∙ ap m.stored (restored_told m st kind setup staged sides spans epoch round world lives told.fits)
+            ∙ stored_told m st kind setup sides (restored_epoch lives epoch) 0 regained
             (regained_placed m st kind setup staged sides spans epoch round world lives told.fits
             (ap (λ (ls : List L). first_lost_of epoch.homes (m.stored ls) (filter lives epoch.members) (m.shift setup)) (sym told.are) ∙ none))
             ∙ sym (stored_by epoch round locals told);

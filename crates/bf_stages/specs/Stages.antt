@@ -100,11 +100,18 @@ module _ {S K I L N M T G : Type 0} (m : Meanings S L M T (Side I)) (st : Stagin
       pub held : IsHeld (is_filled (st.at setup epoch.time) world.home) (m.shift setup) epoch.homes epoch.members
       pub also : st.Also setup epoch stage world.owner
 
--- the good vectors of such a program: at each round they are told by the world at its stage
+-- a world and a rank's local at the beginning of a round: those of its stage
+abbrev pub IsPlaced : {S K I L N M T G : Type 0} → Meanings S L M T (Side I) → Staging S K I L N M G → S → Epoch → (round : ℕ) → World K → Type 0
+IsPlaced m st setup epoch round = IsPlacedAt m st setup epoch (stage_at st setup epoch round)
+
+abbrev pub local_told : {S K I L N M T G : Type 0} → Meanings S L M T (Side I) → Staging S K I L N M G → S → Epoch → (round : ℕ) → World K → (rank : ℕ) → L
+local_told m st setup epoch round = local_of_stage m st setup epoch (stage_at st setup epoch round)
+
+-- the good vectors of such a program
 abbrev pub telling_of : {S K I L N M T G : Type 0} → Meanings S L M T (Side I) → Staging S K I L N M G → Telling S L M (World K)
 telling_of m st = record {
-  Fits = λ setup epoch round. IsPlacedAt m st setup epoch (stage_at st setup epoch round);
-  local_at = λ setup epoch round. local_of_stage m st setup epoch (stage_at st setup epoch round);
+  Fits = IsPlaced m st;
+  local_at = local_told m st;
   next = λ setup epoch round. after_stage m st setup epoch (stage_at st setup epoch round);
   course = λ setup epoch round. st.course setup epoch (stage_at st setup epoch round);
 }
