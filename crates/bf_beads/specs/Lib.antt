@@ -1,0 +1,12 @@
+pub mod Deaths
+pub mod Row
+pub mod Stages
+pub mod Locals
+pub mod Rounds
+pub mod Meanings
+pub mod Goods
+pub mod RowLaws
+pub mod NeighborLaws
+pub mod SpanLaws
+pub mod RoundLaws
+pub mod BeadsLaws

@@ -1,0 +1,229 @@
+-- Each round leads from the locals of its beginning to those of the next, and no bead comes or goes.
+use Rattle.std.proofs.Common.{◌≡◌, ℕ, ◌+◌, ◌%◌, Bool, true, false, cond, List, [], ◌∷◌, length, arith, refl, ap, sym, ◌∙◌, subst}
+use Rattle.std.specs.Prelude.{slice_index_or, ◌==◌, ◌&&◌, not}
+use Rattle.std.specs.List.{count_by}
+use Rattle.std.specs.List.Sorted.{IsStrictlyIncreasing}
+use Rattle.std.proofs.lemmas.Bool.{and_from, eqb-true}
+use Rattle.bf_buddy.specs.Members.{is_member}
+use Rattle.bf_buddy.specs.Buddy.{place_of, buddy_of, buddy_place}
+use Rattle.bf_buddy.proofs.BuddyLemmas.{place_found, member_found, buddy_within, buddy_at}
+use Rattle.bf_program.specs.declared.epoch.Epoch.{Epoch}
+use Rattle.bf_program.specs.Laws.{times}
+use Rattle.bf_parts.specs.Leaves.{AreAmong, part_of}
+use Rattle.bf_parts.specs.MergeLaws.{map_twice}
+use Rattle.bf_parts.specs.Seats.{member_filter}
+use Rattle.bf_parts.specs.Views.{View}
+use Rattle.bf_rounds.specs.Courses.{Course}
+use Rattle.bf_stages.specs.Leading.{LeadsBy, as_delivery, Weighs, lifted}
+use Rattle.bf_stages.specs.Moves.{Hand, GoesToPeer}
+use Rattle.bf_stages.specs.Scenes.{World, Conserves}
+use Rattle.bf_stages.specs.Snapshots.{snapshot_play, snapshot_course}
+use Rattle.bf_stages.specs.Stages.{Follows, HasStages, IsPlacedAt, local_of_stage, after_stage}
+use Rattle.bf_stages.proofs.LeadLemmas.{gathers_by, alone_by, part_by, lens_part, part_conserves, still_conserves, weighs_conserves}
+use Rattle.bf_stages.proofs.MoveLemmas.{move_by, move_weighs}
+use Rattle.bf_stages.proofs.SnapshotLemmas.{snapshot_by, snapshot_weighs}
+use Rattle.bf_stages.proofs.StageLemmas.{times_chain}
+use Rattle.bf_beads.specs.declared.bead.Bead.{Bead}
+use Rattle.bf_beads.specs.declared.local.BeadLocal.{BeadLocal}
+use Rattle.bf_beads.specs.declared.message.BeadMessage.{BeadMessage}
+use Rattle.bf_beads.specs.declared.message.BeadMessage.TheVariants.{Told, Moved, Copied}
+use Rattle.bf_beads.specs.declared.setup.BeadSetup.{BeadSetup}
+use Rattle.bf_beads.specs.declared.stage.Stage.{Stage}
+use Rattle.bf_beads.specs.declared.stage.Stage.TheVariants.{Tell, Grow, Move, Snapshot, Over}
+use Rattle.bf_beads.specs.Goods.{leaves_of, heard_at, hand_at, local_of_hand, tell_course, moves_course, last_trio, course_of, staging}
+use Rattle.bf_beads.specs.Locals.{local_with, told_lens, moved_lens, copied_lens}
+use Rattle.bf_beads.specs.Meanings.{beads, pieces}
+use Rattle.bf_beads.specs.NeighborLaws.{neighbors_mutual, others_mutual}
+use Rattle.bf_beads.specs.Rounds.{is_neighbor, tell_play, goes_to, relinked_one, relinked, others_of, bead_move, play_of}
+use Rattle.bf_beads.specs.Row.{row, grown, value_at, bead_at, beads_at, bead_kind, numbers_of}
+use Rattle.bf_beads.specs.RowLaws.{are_beads, links_changed, grown_part, count_numbers}
+use Rattle.bf_beads.specs.Stages.{span, stages_in}
+
+-- a member's buddy is a member
+buddy_member : (members : List ℕ) (rank shift : ℕ) → is_member members rank ≡ true → is_member members (buddy_of members rank shift) ≡ true
+buddy_member members rank shift is_in =
+    ap (is_member members) (sym (buddy_at members rank shift))
+    ∙ member_found members (buddy_place (length members) (place_of members rank) shift) (buddy_within (length members) (place_of members rank) shift (place_found members rank is_in))
+
+pub goes_member : (members : List ℕ) (time number owner : ℕ) → is_member members owner ≡ true → is_member members (goes_to members time number owner) ≡ true
+unfolding goes_to
+goes_member members time number owner is_in = at ((number + time) % 2 == 0 && is_member members owner)
+  where
+    at : (b : Bool) → is_member members (cond b (buddy_of members owner 0) owner) ≡ true
+    at true = buddy_member members owner 0 is_in
+    at false = is_in
+
+-- the rounds of a part of the local, on its own
+module _ (count : ℕ) (epoch : Epoch) (up : IsStrictlyIncreasing epoch.members) (time : ℕ) (owner : ℕ → ℕ) where
+  abbrev gone : ℕ → ℕ
+  gone number = goes_to epoch.members time number (owner number)
+
+  tell_by : LeadsBy (as_delivery tell_play) epoch.members (tell_course count epoch time owner) (λ rank. hand_at count time owner rank [])
+      (λ rank. hand_at count time owner rank (heard_at count time epoch.members owner rank))
+  unfolding heard_at
+  tell_by = gathers_by tell_play (λ peer msg. msg) (hand_at count time owner) epoch.members (λ rank. hand_at count time owner rank [])
+      (λ rank. hand_at count time owner rank (heard_at count time epoch.members owner rank)) (λ rank other. is_neighbor rank (part_of (beads_at count time) owner rank) other)
+      up (neighbors_mutual count time owner epoch.members) (record { none = λ rank is_in. refl; hear = λ rank peer heard. refl; finish = λ rank is_in. refl })
+
+  to_peer : (number : ℕ) → is_member epoch.members (owner number) ≡ true
+      → GoesToPeer {N = List Bead} bead_kind.first (row count) (bead_at count (time + 1) owner) owner gone (λ rank. []) (others_of epoch.members) number
+  to_peer number is_in other =
+      member_filter (λ rank. not (rank == owner number)) epoch.members (gone number)
+      ∙ and_from (is_member epoch.members (gone number)) (not (gone number == owner number)) (goes_member epoch.members time number (owner number) is_in) (ap not other)
+
+  moves_by : AreAmong epoch.members (beads_at count (time + 1)) owner
+      → LeadsBy (bead_move epoch.members time) epoch.members (moves_course count epoch time owner) (λ rank. hand_at count (time + 1) owner rank [])
+      (λ rank. hand_at count (time + 1) gone rank [])
+  unfolding part_of
+  moves_by owned = move_by bead_kind.first (row count) (bead_at count (time + 1) owner) (bead_at count (time + 1) gone) ((are_beads count (time + 1)).rising owner) owner
+      gone (λ rank. []) (others_of epoch.members)
+      (λ members hand. others_of members hand.rank) (λ rank known bead. goes_to epoch.members time bead.number rank) (λ rank known bead. relinked epoch.members time bead)
+      epoch.members (λ rank other. not (other == rank)) up (others_mutual epoch.members)
+      (λ rank is_in. refl)
+      (λ rank is_in k d within its. ap (goes_to epoch.members time (slice_index_or (row count) k d)) (sym (eqb-true (owner (slice_index_or (row count) k d)) rank its)))
+      (λ rank is_in k d within its. ap (λ links. record { number = slice_index_or (row count) k d; value = value_at (time + 1) (slice_index_or (row count) k d); links = links })
+      (links_changed (relinked_one epoch.members time) count owner gone (slice_index_or (row count) k d) (λ j. refl)))
+      owned (λ k d within. to_peer _ (owned k d within))
+
+no_more : (n : ℕ) → n + 0 ≡ n
+no_more n = omega arith
+
+none_before : (a b : ℕ) → a ≡ b → a ≡ 0 + b
+none_before a b same = omega arith
+
+-- how often beads have a number
+abbrev with_number : (unit : ℕ) → List Bead → ℕ
+with_number unit beads = count_by (λ (bead : Bead). bead.number == unit) beads
+
+abbrev on_hand : (unit : ℕ) → Hand (List Bead) Bead → ℕ
+on_hand unit hand = with_number unit hand.items
+
+-- hands in locals weigh what hands do
+hand_conserves : (count shift : ℕ) (epoch : Epoch) (world : World ℕ) (unit : ℕ) (wrap : List Bead → BeadMessage) (of_word : List Bead → ℕ)
+    → ((word : List Bead) → times pieces (pieces.of_message (wrap word)) unit ≡ of_word word)
+    → (members : List ℕ) → (after : ℕ → Hand (List Bead) Bead) → (course : Course (Hand (List Bead) Bead) (List Bead)) → Conserves (on_hand unit) of_word members course after
+    → Conserves (λ local. times pieces (pieces.of_local local) unit) (λ msg. times pieces (pieces.of_message msg) unit) members
+    (lifted (local_of_hand count shift epoch world) wrap course) (λ rank. local_of_hand count shift epoch world rank (after rank))
+hand_conserves count shift epoch world unit wrap of_word same members after course conserves =
+    part_conserves (λ local. times pieces (pieces.of_local local) unit) (λ msg. times pieces (pieces.of_message msg) unit)
+    (on_hand unit) of_word (local_of_hand count shift epoch world) (local_of_hand count shift epoch world) wrap (λ rank. 0)
+    (λ rank hand. none_before _ _ (count_numbers unit hand.items)) (λ rank hand. none_before _ _ (count_numbers unit hand.items)) same members course after conserves
+
+tell_weighs : (unit : ℕ) → Weighs (on_hand unit) (λ word. 0) (as_delivery tell_play)
+tell_weighs unit = record {
+  out = λ hand to. no_more (on_hand unit hand);
+  hear = λ hand peer msg. sym (no_more (on_hand unit hand));
+  finish = λ hand. refl;
+}
+
+module _ (setup : BeadSetup) (epoch : Epoch) where
+  abbrev n : ℕ
+  n = setup.beads
+
+  abbrev LeadsTo : Stage → Stage → Type 0
+  LeadsTo stage next = Follows beads staging setup pieces epoch stage next
+
+  abbrev embed : World ℕ → ℕ → Hand (List Bead) Bead → BeadLocal
+  embed = local_of_hand n setup.shift epoch
+
+  tell_follows : (time : ℕ) → LeadsTo (Tell time) (Grow time)
+  tell_follows time = record {
+    leads = λ world placed. part_by (as_delivery tell_play) (play_of setup.shift epoch (Tell time)) (embed world) (embed world) Told
+        (lens_part told_lens (as_delivery tell_play) (embed world) (record { taken = λ rank n. refl; given = λ rank n now. refl; read = λ word. refl }))
+        epoch.members (tell_course n epoch time world.owner) (λ rank. hand_at n time world.owner rank []) (λ rank. hand_at n time world.owner rank (heard_at n time epoch.members world.owner rank))
+        (tell_by n epoch placed.held.members_rise time world.owner);
+    owned = λ world placed. placed.owned;
+    also = λ world placed. tt;
+    conserves = λ world unit placed. hand_conserves n setup.shift epoch world unit Told (λ word. 0) (λ word. refl) epoch.members
+        (λ rank. hand_at n time world.owner rank (heard_at n time epoch.members world.owner rank)) (tell_course n epoch time world.owner)
+        (weighs_conserves (on_hand unit) (λ word. 0) (as_delivery tell_play) (tell_weighs unit) epoch.members
+        (tell_course n epoch time world.owner) (λ rank. hand_at n time world.owner rank []) (λ rank. hand_at n time world.owner rank (heard_at n time epoch.members world.owner rank))
+        (tell_by n epoch placed.held.members_rise time world.owner));
+  }
+
+  grow_follows : (time : ℕ) → LeadsTo (Grow time) (Move time)
+  grow_follows time = record {
+    leads = λ world placed. alone_by (play_of setup.shift epoch (Grow time)) (Told []) epoch.members
+        (λ rank. embed world rank (hand_at n time world.owner rank (heard_at n time epoch.members world.owner rank)))
+        (λ rank. embed world rank (hand_at n (time + 1) world.owner rank [])) (λ rank is_in. refl)
+        (λ rank is_in. ap (λ (items : List Bead). embed world rank (record { rank = rank; known = []; items = items })) (grown_part n time world.owner rank));
+    owned = λ world placed. placed.owned;
+    also = λ world placed. tt;
+    conserves = λ world unit placed. still_conserves (λ local. times pieces (pieces.of_local local) unit) (λ msg. times pieces (pieces.of_message msg) unit) epoch.members
+        (course_of n setup.shift epoch (Grow time) world) (λ rank. embed world rank (hand_at n (time + 1) world.owner rank []))
+        (λ rank. count_by (λ number. number == unit) (numbers_of (part_of (beads_at n time) world.owner rank))) (λ from to. refl) (λ rank done. refl) (λ rank done. refl)
+        (λ rank is_in. ap (λ (items : List Bead). count_by (λ number. number == unit) (numbers_of items)) (sym (grown_part n time world.owner rank))
+        ∙ ap (count_by (λ number. number == unit)) (map_twice (λ (bead : Bead). bead.number) (grown time) (λ (bead : Bead). bead.number) (λ bead. refl) (part_of (beads_at n time) world.owner rank)));
+  }
+
+  -- what comes next has the same beads, and nothing heard
+  move_follows : (time : ℕ) (next : Stage)
+      → ((world : World ℕ) (rank : ℕ) → embed world rank (hand_at n (time + 1) world.owner rank []) ≡ local_of_stage beads staging setup epoch next world rank)
+      → ((owner : ℕ → ℕ) → AreAmong epoch.members (beads_at n (time + 1)) owner → AreAmong epoch.members (leaves_of n epoch next) owner)
+      → LeadsTo (Move time) next
+  move_follows time next same among = record {
+    leads = λ world placed.
+        subst (λ (after : ℕ → BeadLocal). LeadsBy (play_of setup.shift epoch (Move time)) epoch.members (course_of n setup.shift epoch (Move time) world) (local_of_stage beads staging setup epoch (Move time) world) after)
+        (λ i rank. same (after_stage beads staging setup epoch (Move time) world) rank i)
+        (part_by (bead_move epoch.members time) (play_of setup.shift epoch (Move time)) (embed world) (embed world) Moved
+        (lens_part moved_lens (bead_move epoch.members time) (embed world) (record { taken = λ rank n. refl; given = λ rank n now. refl; read = λ word. refl }))
+        epoch.members (moves_course n epoch time world.owner) (λ rank. hand_at n (time + 1) world.owner rank [])
+        (λ rank. hand_at n (time + 1) (λ number. goes_to epoch.members time number (world.owner number)) rank [])
+        (moves_by n epoch placed.held.members_rise time world.owner placed.owned));
+    owned = λ world placed. among (λ number. goes_to epoch.members time number (world.owner number))
+        (λ k d within. goes_member epoch.members time _ (world.owner _) (placed.owned k d within));
+    also = λ world placed. tt;
+    conserves = λ world unit placed.
+        subst (λ (after : ℕ → BeadLocal). Conserves (λ local. times pieces (pieces.of_local local) unit) (λ msg. times pieces (pieces.of_message msg) unit) epoch.members
+        (course_of n setup.shift epoch (Move time) world) after)
+        (λ i rank. same (after_stage beads staging setup epoch (Move time) world) rank i)
+        (hand_conserves n setup.shift epoch world unit Moved (with_number unit) (count_numbers unit) epoch.members
+        (λ rank. hand_at n (time + 1) (λ number. goes_to epoch.members time number (world.owner number)) rank []) (moves_course n epoch time world.owner)
+        (weighs_conserves (on_hand unit) (with_number unit) (bead_move epoch.members time)
+        (move_weighs bead_kind.first (λ members hand. others_of members hand.rank) (λ rank known bead. goes_to epoch.members time bead.number rank) (λ rank known bead. relinked epoch.members time bead)
+        (λ (bead : Bead). bead.number == unit) (λ rank known bead. refl)) epoch.members
+        (moves_course n epoch time world.owner) (λ rank. hand_at n (time + 1) world.owner rank []) (λ rank. hand_at n (time + 1) (λ number. goes_to epoch.members time number (world.owner number)) rank [])
+        (moves_by n epoch placed.held.members_rise time world.owner placed.owned)));
+  }
+
+  snapshot_follows : LeadsTo Snapshot Over
+  snapshot_follows = record {
+    leads = λ world placed. by world placed;
+    owned = λ world placed. placed.owned;
+    also = λ world placed. tt;
+    conserves = λ world unit placed.
+        part_conserves (λ local. times pieces (pieces.of_local local) unit) (λ msg. times pieces (pieces.of_message msg) unit)
+        (λ (view : View Bead). with_number unit view.items) (λ word. 0) (λ rank view. local_with view []) (λ rank view. local_with view []) Copied (λ rank. 0)
+        (λ rank view. none_before _ _ (count_numbers unit view.items)) (λ rank view. none_before _ _ (count_numbers unit view.items)) (λ word. refl)
+        epoch.members (snapshot_course setup.shift epoch (last_trio n epoch) world.owner world.home) _
+        (weighs_conserves (λ (view : View Bead). with_number unit view.items) (λ word. 0) (as_delivery (snapshot_play setup.shift epoch)) (snapshot_weighs setup.shift epoch (λ (bead : Bead). bead.number == unit))
+        epoch.members (snapshot_course setup.shift epoch (last_trio n epoch) world.owner world.home) _ _
+        (snapshot_by setup.shift epoch (last_trio n epoch) refl world.owner world.home placed.held.members_rise));
+  }
+    where
+      by : (world : World ℕ) → IsPlacedAt beads staging setup epoch Snapshot world
+          → LeadsBy (play_of setup.shift epoch Snapshot) epoch.members (course_of n setup.shift epoch Snapshot world) (local_of_stage beads staging setup epoch Snapshot world)
+          (local_of_stage beads staging setup epoch Over (after_stage beads staging setup epoch Snapshot world))
+      by world placed = part_by (as_delivery (snapshot_play setup.shift epoch)) (play_of setup.shift epoch Snapshot) (λ rank view. local_with view []) (λ rank view. local_with view []) Copied
+          (lens_part copied_lens (as_delivery (snapshot_play setup.shift epoch)) (λ rank view. local_with view []) (record { taken = λ rank n. refl; given = λ rank n now. refl; read = λ word. refl }))
+          epoch.members (snapshot_course setup.shift epoch (last_trio n epoch) world.owner world.home) _ _
+          (snapshot_by setup.shift epoch (last_trio n epoch) refl world.owner world.home placed.held.members_rise)
+
+pub has_stages : (setup : BeadSetup) → HasStages beads staging setup pieces
+has_stages setup epoch runs =
+    times_chain (LeadsTo setup epoch) stages_in Tell (Snapshot ∷ []) Over epoch.time (span epoch) (λ time other. refl)
+    (λ time low high. (tell_follows setup epoch time, (grow_follows setup epoch time, (move_follows setup epoch time (Tell (time + 1)) (λ world rank. refl) (λ owner owned. owned), tt))))
+    (λ time low last.
+    let e : time + 1 ≡ epoch.target = omega (arith, last, runs.forth, runs.near) in (
+      tell_follows setup epoch time,
+      (
+        grow_follows setup epoch time,
+        (
+          move_follows setup epoch time Snapshot
+              (λ world rank. ap (λ t. local_of_hand setup.beads setup.shift epoch world rank (hand_at setup.beads t world.owner rank [])) e)
+              (λ owner owned. subst (λ t. AreAmong epoch.members (beads_at setup.beads t) owner) e owned),
+          tt,
+        ),
+      ),
+    ))
+    (snapshot_follows setup epoch, tt)

@@ -1,0 +1,132 @@
+-- What is seen of a local, and how epochs begin and end.
+use Rattle.std.proofs.Common.{◌≡◌, ℕ, suc, zero, ◌+◌, ◌*◌, true, false, List, [], ◌∷◌, length, arith, refl, ap, sym, ◌∙◌}
+use Rattle.std.specs.Prelude.{nat_lt, ◌==◌, Option, Some, None, All}
+use Rattle.std.specs.List.{count_by}
+use Rattle.std.proofs.lemmas.List.{append-nil}
+use Rattle.std.proofs.lemmas.List.Elements.{All-nil, All-cons}
+use Rattle.std.proofs.Math.Nat.{mod-lt}
+use Rattle.bf_program.specs.declared.epoch.Epoch.{Epoch}
+use Rattle.bf_program.specs.Laws.{KeepsLimits}
+use Rattle.bf_parts.specs.Seats.{range_has}
+use Rattle.bf_parts.specs.Views.{View}
+use Rattle.bf_stages.specs.Leading.{as_delivery}
+use Rattle.bf_stages.specs.Snapshots.{heard_part}
+use Rattle.bf_stages.specs.Stages.{head_of, IsStaged, KeepsSide, HasSides, HasSpans, HasPieces}
+use Rattle.bf_stages.proofs.StageLemmas.{lens_keeps}
+use Rattle.bf_beads.specs.declared.bead.Bead.{Bead}
+use Rattle.bf_beads.specs.declared.setup.BeadSetup.{BeadSetup}
+use Rattle.bf_beads.specs.declared.stage.Stage.{Stage}
+use Rattle.bf_beads.specs.declared.stage.Stage.TheVariants.{Tell, Grow, Move, Snapshot, Over}
+use Rattle.bf_beads.specs.Goods.{leaves_of, work_of, RunsForth, staging}
+use Rattle.bf_beads.specs.Locals.{view_in, told_lens, moved_lens}
+use Rattle.bf_beads.specs.Meanings.{beads, pieces}
+use Rattle.bf_beads.specs.Rounds.{tell_play, bead_move, play_of}
+use Rattle.bf_beads.specs.Row.{beads_at, bead_kind, home_in, numbers_of}
+use Rattle.bf_beads.specs.RowLaws.{are_beads, one_number}
+use Rattle.bf_beads.specs.Stages.{span, stages_from, stages_of, stage_of, is_made}
+
+pub staged : (setup : BeadSetup) → IsStaged beads staging setup
+unfolding stage_of
+staged setup = record {
+  rounds = λ epoch. refl;
+  plays = λ epoch round. record { peers = λ local. refl; out = λ local to. refl; take = λ local peer msg. refl; finish = λ local. refl };
+  unmade = λ epoch. all_unmade epoch.time (span epoch);
+  made = refl;
+}
+  where
+    all_unmade : (time count : ℕ) → All (λ stage. is_made stage ≡ false) (stages_from time count)
+    all_unmade time zero = All-cons (λ stage. is_made stage ≡ false) Snapshot [] refl (All-nil (λ stage. is_made stage ≡ false))
+    all_unmade time (suc count) =
+        let rest : List Stage = stages_from (time + 1) count in
+        All-cons (λ stage. is_made stage ≡ false) (Tell time) (Grow time ∷ Move time ∷ rest) refl
+        (All-cons (λ stage. is_made stage ≡ false) (Grow time) (Move time ∷ rest) refl (All-cons (λ stage. is_made stage ≡ false) (Move time) rest refl (all_unmade (time + 1) count)))
+
+pub sides : (setup : BeadSetup) → HasSides beads staging bead_kind setup
+sides setup = record {
+  seen = λ view heard. refl;
+  reads = λ local. refl;
+  stored = λ locals. refl;
+  filled = λ local. refl;
+  given = λ side rank epoch. refl;
+  plays = λ epoch stage. by epoch stage;
+  parcel = λ local. refl;
+  keep = λ local. refl;
+  restore = λ local rank epoch. refl;
+}
+  where
+    heard : (view : View Bead) (msg : Option (List Bead)) → (heard_part view msg).active ≡ view.active
+    heard view None = refl
+    heard view (Some items) = refl
+
+    by : (epoch : Epoch) (stage : Stage) → KeepsSide view_in (play_of setup.shift epoch stage)
+    by epoch (Tell time) = lens_keeps view_in told_lens (as_delivery tell_play) (λ local n. refl)
+    by epoch (Grow time) = record { out = λ local to. refl; hear = λ local peer msg. refl; finish = λ local. refl }
+    by epoch (Move time) = lens_keeps view_in moved_lens (bead_move epoch.members time) (λ local n. refl)
+    by epoch Snapshot = record { out = λ local to. refl; hear = λ local peer msg. heard (view_in local) _; finish = λ local. refl }
+    by epoch Over = record { out = λ local to. refl; hear = λ local peer msg. refl; finish = λ local. refl }
+
+-- an epoch begins with the beads of its time, and nothing heard
+first_beads : (setup : BeadSetup) (epoch : Epoch) (count : ℕ) → span epoch ≡ count → RunsForth epoch → leaves_of setup.beads epoch (head_of (stages_of epoch) Over) ≡ beads_at setup.beads epoch.time
+first_beads setup epoch zero is runs =
+    ap (λ n. leaves_of setup.beads epoch (head_of (stages_from epoch.time n) Over)) is
+    ∙ ap (beads_at setup.beads) (let e : epoch.target ≡ epoch.time = omega (arith, runs.forth, runs.near, is) in e)
+first_beads setup epoch (suc count) is runs = ap (λ n. leaves_of setup.beads epoch (head_of (stages_from epoch.time n) Over)) is
+
+first_work : (setup : BeadSetup) (epoch : Epoch) (count : ℕ) → span epoch ≡ count → (owner : ℕ → ℕ) (rank : ℕ) → work_of setup.beads epoch (head_of (stages_of epoch) Over) owner rank ≡ []
+first_work setup epoch zero is owner rank = ap (λ n. work_of setup.beads epoch (head_of (stages_from epoch.time n) Over) owner rank) is
+first_work setup epoch (suc count) is owner rank = ap (λ n. work_of setup.beads epoch (head_of (stages_from epoch.time n) Over) owner rank) is
+
+stages_many : (time count : ℕ) → length (stages_from time count) ≡ 3 * count + 1
+stages_many time zero = refl
+stages_many time (suc count) = let later = stages_many (time + 1) count in omega (arith, later)
+
+pub spans : (setup : BeadSetup) → HasSpans beads staging bead_kind setup
+spans setup = record {
+  first_runs = record { forth = omega arith; near = omega (arith, setup.interval_fits) };
+  commit_runs = λ epoch runs goes_on. record { forth = omega (arith, goes_on); near = omega (arith, setup.interval_fits) };
+  restore_runs = λ epoch lives runs. record { forth = omega arith; near = omega arith };
+  some_stage = λ epoch runs. let many = stages_many epoch.time (span epoch) in omega (arith, many);
+  are = λ epoch runs. are_beads setup.beads epoch.time;
+  begins = λ epoch runs. first_beads setup epoch (span epoch) refl runs;
+  ends = λ epoch runs. refl;
+  also = λ epoch owner runs owned. tt;
+  fresh = λ epoch owner rank runs. first_work setup epoch (span epoch) refl owner rank;
+  keep = λ epoch view owner rank runs goes_on. refl;
+  home_of = home_in setup.ranks;
+  housed = λ k d within. range_has setup.ranks _ (mod-lt _ (omega (arith, setup.some_rank)));
+  opening = refl;
+  laid = refl;
+}
+
+pub limits : (setup : BeadSetup) → KeepsLimits beads setup
+limits setup = record {
+  some_rank = setup.some_rank;
+  ranks = setup.ranks_fit;
+  steps = setup.steps_fit;
+  shift = setup.shift_fits;
+  some_interval = setup.some_interval;
+  interval = setup.interval_fits;
+  rounds = λ epoch. let many = stages_many epoch.time (span epoch) in omega (arith, many);
+}
+
+pub has_pieces : (setup : BeadSetup) → HasPieces beads staging bead_kind setup pieces (λ (bead : Bead). bead.number) (λ local. [])
+has_pieces setup = record {
+  blind = λ f item unit. refl;
+  of_local = λ local. sym (append-nil (numbers_of local.beads));
+  of_saved = λ side rank home. refl;
+  of_parcel = λ local. refl;
+  parcel_items = λ local. refl;
+  parcel_cargo = λ local. refl;
+  keep_cargo = λ local. refl;
+  fresh_cargo = λ view epoch rank. refl;
+  no_cargo = λ epoch stage view owner rank runs. refl;
+  once = λ epoch stage owner unit runs within. at stage epoch owner unit within;
+}
+  where
+    at : (stage : Stage) (epoch : Epoch) (owner : ℕ → ℕ) (unit : ℕ) → nat_lt unit setup.beads ≡ true
+        → count_by (λ number. ((leaves_of setup.beads epoch stage).item owner number).number == unit) (leaves_of setup.beads epoch stage).keys ≡ 1
+    at (Tell time) epoch owner unit within = one_number setup.beads unit within
+    at (Grow time) epoch owner unit within = one_number setup.beads unit within
+    at (Move time) epoch owner unit within = one_number setup.beads unit within
+    at Snapshot epoch owner unit within = one_number setup.beads unit within
+    at Over epoch owner unit within = one_number setup.beads unit within
