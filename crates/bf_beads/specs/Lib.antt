@@ -3,6 +3,7 @@ pub mod Row
 pub mod Stages
 pub mod Locals
 pub mod Rounds
+pub mod Peers
 pub mod Meanings
 pub mod Goods
 pub mod RowLaws

@@ -76,7 +76,7 @@ first_work : (setup : BeadSetup) (epoch : Epoch) (count : ℕ) → span epoch �
 first_work setup epoch zero is owner rank = ap (λ n. work_of setup.beads epoch (head_of (stages_from epoch.time n) Over) owner rank) is
 first_work setup epoch (suc count) is owner rank = ap (λ n. work_of setup.beads epoch (head_of (stages_from epoch.time n) Over) owner rank) is
 
-stages_many : (time count : ℕ) → length (stages_from time count) ≡ 3 * count + 1
+pub stages_many : (time count : ℕ) → length (stages_from time count) ≡ 3 * count + 1
 stages_many time zero = refl
 stages_many time (suc count) = let later = stages_many (time + 1) count in omega (arith, later)
 

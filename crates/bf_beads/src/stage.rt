@@ -1,3 +1,8 @@
+ghost use Rattle.std.specs.Prelude.{◌≡◌, ◌+◌, ◌^◌, ◌<◌, ◌≤◌};
+ghost use Rattle.bf_beads.specs.Stages.{span, rounds_of, stage_of};
+
+use bf_program::Epoch;
+
 /// What a round does, in the step from a time to the next.
 #[derive(Clone, Copy)]
 pub enum Stage {
@@ -11,4 +16,41 @@ pub enum Stage {
     Snapshot,
     /// No round is left.
     Over,
+}
+
+// How many steps of time an epoch makes.
+fn span(epoch: &Epoch) -> u32
+    ensures steps { result ≡ span epoch.now }
+    ensures few { result ≤ 128 }
+    ensures fits { epoch.now.time + result < 2 ^ 32 }
+{
+    epoch.target.saturating_sub(epoch.time).min(128)
+}
+
+/// How many rounds an epoch has: three for each step, and the snapshot.
+#[tactic(auto, using(crate::proofs::StageSteps::stage_steps))]
+pub fn rounds(epoch: &Epoch) -> u32
+    ensures { result ≡ rounds_of epoch.now }
+{
+    3 * span(epoch) + 1
+}
+
+/// What a round of an epoch does.
+#[tactic(auto, using(crate::proofs::StageSteps::stage_steps))]
+pub fn stage_of(epoch: &Epoch, round: u32) -> Stage
+    ensures { result ≡ stage_of epoch.now round }
+{
+    let steps = span(epoch);
+    if 3 * steps < round {
+        return Stage::Over;
+    }
+    if 3 * steps == round {
+        return Stage::Snapshot;
+    }
+    let time = epoch.time + round / 3;
+    match round % 3 {
+        0 => Stage::Tell(time),
+        1 => Stage::Grow(time),
+        _ => Stage::Move(time),
+    }
 }

@@ -1,0 +1,5 @@
+pub mod StageSteps
+pub mod PeerSteps
+pub mod MovingSteps
+pub mod OpeningSteps
+pub mod PointSteps
