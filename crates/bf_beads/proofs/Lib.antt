@@ -3,3 +3,4 @@ pub mod PeerSteps
 pub mod MovingSteps
 pub mod OpeningSteps
 pub mod PointSteps
+pub mod FilledSteps

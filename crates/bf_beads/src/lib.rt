@@ -23,7 +23,7 @@ pub use bead::{Bead, Link};
 pub use bf_items::Items;
 pub use local::BeadLocal;
 pub use message::BeadMessage;
-pub use opening::opened;
+pub use opening::{filled, opened};
 pub use program::Beads;
 pub use setup::BeadSetup;
 pub use stage::Stage;

@@ -1,6 +1,6 @@
 ghost use Rattle.std.specs.Prelude.{◌≡◌, ◌<◌, ◌≤◌, IfOk};
 ghost use Rattle.bf_parts.specs.Leaves.{part_of, copy_at};
-ghost use Rattle.bf_beads.specs.Meanings.{opened};
+ghost use Rattle.bf_beads.specs.Meanings.{beads, opened};
 ghost use Rattle.bf_beads.specs.Row.{is_beside, links_of, bead_at, beads_at, home_in};
 
 use crate::{Bead, BeadLocal, BeadSetup, Items, Link};
@@ -99,4 +99,12 @@ pub fn opened(alloc: Global, setup: &BeadSetup, rank: u32) -> Result<BeadLocal, 
         active,
         spare: Side::bare(alloc),
     })
+}
+
+/// The ranks that have a bead at the opening.
+#[tactic(auto, using(crate::proofs::FilledSteps::laid_is))]
+pub fn filled(setup: &BeadSetup) -> Members
+    ensures { result ≡ beads.laid setup.now }
+{
+    Members::all(setup.beads().min(setup.ranks()))
 }

@@ -1,41 +1,69 @@
-//! Runs of three ranks with an item each, with deaths and in various orders.
+//! Runs of three ranks with four beads, with deaths and in various orders.
 //!
-//! The values 1, 2 and 3 add up to 6, which makes them 7, 8 and 9. These add up to 24, which makes them 31, 32 and 33.
+//! Bead k begins at rank k mod 3 with the value k + 1. From time 0 to 1 each grows by its number, and from 1 to 2 by its number
+//! and one: to 3k + 2 in all, which is 2, 5, 8 and 11. Beads 0 and 2 go to the next member in the first step, 1 and 3 in the second.
 ghost use Rattle.std.specs.Prelude.{◌≡◌};
 
 use crate::run;
+use bf_beads::{Bead, BeadSetup, Beads, Items};
 use bf_core::Outcome;
-use bf_items::Items;
-use bf_tally::{Item, Tally, TallySetup};
 use bf_world::World;
 use std::process::Abort;
 use std::test::Fail;
 
-// Three ranks with an item each and two steps; buddies stand one place on, and each step ends with a snapshot.
-fn three(first: Option<u32>, second: Option<u32>) -> TallySetup
+// Three ranks with four beads and two steps; buddies stand one place on, and each step ends with a snapshot.
+fn three(first: Option<u32>, second: Option<u32>) -> BeadSetup
     ensures { result.ranks ≡ 3 }
 {
     let mut deaths = [None; 32];
     deaths[0] = first;
     deaths[1] = second;
-    TallySetup::new(3, 3, 2, 1, 0, deaths)
+    BeadSetup::new(3, 4, 2, 1, 0, deaths)
 }
 
-// Whether an item is among others with its value.
-fn has(items: &Items<Item>, id: u32, value: u32) -> bool {
-    for item in items.as_slice() {
-        if item.id == id && item.value == value {
+// Whether a bead is among others with its value.
+fn has(beads: &Items<Bead>, number: u32, value: u32) -> bool {
+    for bead in beads.as_slice() {
+        if bead.number == number && bead.value == value {
             return true;
         }
     }
     false
 }
 
-fn is_given(parcels: &[(u32, Items<Item>)], id: u32, value: u32) -> bool {
-    parcels.iter().any(|parcel| has(&parcel.1, id, value))
+// Whether a rank gives a bead with its value.
+fn is_given(parcels: &[(u32, Items<Bead>)], rank: u32, number: u32, value: u32) -> bool {
+    parcels
+        .iter()
+        .any(|parcel| parcel.0 == rank && has(&parcel.1, number, value))
 }
 
-fn count(parcels: &[(u32, Items<Item>)]) -> usize {
+// Whether a rank gives a bead that is linked with another of an owner.
+fn is_linked(bead: &Bead, other: u32, owner: u32) -> bool {
+    for link in bead.links.as_slice() {
+        if link.number == other && link.owner == owner {
+            return true;
+        }
+    }
+    false
+}
+
+fn has_link(beads: &Items<Bead>, number: u32, other: u32, owner: u32) -> bool {
+    for bead in beads.as_slice() {
+        if bead.number == number && is_linked(bead, other, owner) {
+            return true;
+        }
+    }
+    false
+}
+
+fn links(parcels: &[(u32, Items<Bead>)], number: u32, other: u32, owner: u32) -> bool {
+    parcels
+        .iter()
+        .any(|parcel| has_link(&parcel.1, number, other, owner))
+}
+
+fn count(parcels: &[(u32, Items<Bead>)]) -> usize {
     let mut count = 0usize;
     for parcel in parcels {
         count = count.wrapping_add(parcel.1.len());
@@ -43,43 +71,49 @@ fn count(parcels: &[(u32, Items<Item>)]) -> usize {
     count
 }
 
-fn sum(items: &Items<Item>) -> u32 {
-    let mut sum = 0u32;
-    for item in items.as_slice() {
-        sum = sum.wrapping_add(item.value);
-    }
-    sum
-}
-
-fn total(parcels: &[(u32, Items<Item>)]) -> u32 {
-    let mut total = 0u32;
-    for parcel in parcels {
-        total = total.wrapping_add(sum(&parcel.1));
-    }
-    total
-}
-
-fn expect_parcels(rt: &impl Abort, parcels: &[(u32, Items<Item>)]) {
-    assert_eq!(rt; count(parcels), 3);
-    assert_eq!(rt; total(parcels), 96);
-    assert!(rt; is_given(parcels, 0, 31));
-    assert!(rt; is_given(parcels, 1, 32));
-    assert!(rt; is_given(parcels, 2, 33));
-}
-
-// A run with two steps' sums, in which so many ranks give parcels, after so many restores.
-fn expect_finished(rt: &impl Abort, world: &World<Tally>, parcels: usize, restores: u32) {
+// A run after so many restores, in which so many ranks give four beads.
+fn expect_finished(rt: &impl Abort, world: &World<Beads>, parcels: usize, restores: u32) {
     assert_eq!(rt; world.outcome(), Some(Outcome::Finished));
     assert!(rt; world.finished());
     assert_eq!(rt; world.restores(), restores);
     assert_eq!(rt; world.parcels().len(), parcels);
-    expect_parcels(rt, world.parcels());
+    assert_eq!(rt; count(world.parcels()), 4);
+}
+
+// The second rank begins with bead 1, gets bead 0 in the first step, and in the second gives bead 1 for bead 3.
+fn expect_all_alive(rt: &impl Abort, world: &World<Beads>) {
+    expect_finished(rt, world, 3, 0);
+    assert!(rt; is_given(world.parcels(), 1, 0, 2));
+    assert!(rt; is_given(world.parcels(), 2, 1, 5));
+    assert!(rt; is_given(world.parcels(), 0, 2, 8));
+    assert!(rt; is_given(world.parcels(), 1, 3, 11));
+    expect_links(rt, world, 1, 2, 0, 1);
+}
+
+// The links of all beads, by the owners of these.
+fn expect_links(rt: &impl Abort, world: &World<Beads>, zero: u32, one: u32, two: u32, three: u32) {
+    assert!(rt; links(world.parcels(), 0, 1, one));
+    assert!(rt; links(world.parcels(), 1, 0, zero));
+    assert!(rt; links(world.parcels(), 1, 2, two));
+    assert!(rt; links(world.parcels(), 2, 1, one));
+    assert!(rt; links(world.parcels(), 2, 3, three));
+    assert!(rt; links(world.parcels(), 3, 2, two));
+}
+
+// Without the second rank the third has its beads. Of the two that go on each gives two beads away and gets two.
+fn expect_two_alive(rt: &impl Abort, world: &World<Beads>) {
+    expect_finished(rt, world, 2, 1);
+    assert!(rt; is_given(world.parcels(), 2, 0, 2));
+    assert!(rt; is_given(world.parcels(), 0, 1, 5));
+    assert!(rt; is_given(world.parcels(), 0, 2, 8));
+    assert!(rt; is_given(world.parcels(), 2, 3, 11));
+    expect_links(rt, world, 2, 0, 0, 2);
 }
 
 #[test]
 fn passes_alone_finish_a_run(rt: HostRuntime) -> Result<(), Fail> {
     let world = run(rt.alloc(), three(None, None), &[])?;
-    expect_finished(&rt, &world, 3, 0);
+    expect_all_alive(&rt, &world);
     Ok(())
 }
 
@@ -87,7 +121,7 @@ fn passes_alone_finish_a_run(rt: HostRuntime) -> Result<(), Fail> {
 fn a_rising_order_finishes_alike(rt: HostRuntime) -> Result<(), Fail> {
     let order = [0, 1, 2, 0, 1, 2, 0, 1, 2, 0, 1, 2, 0, 1, 2];
     let world = run(rt.alloc(), three(None, None), &order)?;
-    expect_finished(&rt, &world, 3, 0);
+    expect_all_alive(&rt, &world);
     Ok(())
 }
 
@@ -95,42 +129,43 @@ fn a_rising_order_finishes_alike(rt: HostRuntime) -> Result<(), Fail> {
 fn a_falling_order_finishes_alike(rt: HostRuntime) -> Result<(), Fail> {
     let order = [2, 1, 0, 2, 1, 0, 2, 1, 0, 2, 1, 0, 2, 1, 0];
     let world = run(rt.alloc(), three(None, None), &order)?;
-    expect_finished(&rt, &world, 3, 0);
+    expect_all_alive(&rt, &world);
     Ok(())
 }
 
 #[test]
 fn one_rank_ahead_finishes_alike(rt: HostRuntime) -> Result<(), Fail> {
     let world = run(rt.alloc(), three(None, None), &[1, 1, 1, 1])?;
-    expect_finished(&rt, &world, 3, 0);
+    expect_all_alive(&rt, &world);
     Ok(())
 }
 
 #[test]
 fn a_death_at_the_opening_changes_no_values(rt: HostRuntime) -> Result<(), Fail> {
     let world = run(rt.alloc(), three(None, Some(0)), &[])?;
-    expect_finished(&rt, &world, 2, 1);
+    expect_two_alive(&rt, &world);
     let falling = run(rt.alloc(), three(None, Some(0)), &[2, 1, 0, 2, 1, 0])?;
-    expect_finished(&rt, &falling, 2, 1);
+    expect_two_alive(&rt, &falling);
     Ok(())
 }
 
+// The second rank has four events in which neighbours tell each other, and then has sent one bead or none.
 #[test]
-fn a_death_among_rounds_changes_no_values(rt: HostRuntime) -> Result<(), Fail> {
+fn a_death_among_moves_changes_no_values(rt: HostRuntime) -> Result<(), Fail> {
     let world = run(rt.alloc(), three(None, Some(5)), &[])?;
-    expect_finished(&rt, &world, 2, 1);
+    expect_two_alive(&rt, &world);
     let falling = run(rt.alloc(), three(None, Some(5)), &[2, 1, 0, 2, 1, 0])?;
-    expect_finished(&rt, &falling, 2, 1);
+    expect_two_alive(&rt, &falling);
     Ok(())
 }
 
-// The second rank has twelve events in an epoch: ten sends and receives, its arrival and its leaving.
+// The second rank has fourteen events in an epoch: twelve sends and receives, its arrival and its leaving.
 #[test]
 fn a_death_after_a_commit_changes_no_values(rt: HostRuntime) -> Result<(), Fail> {
-    let world = run(rt.alloc(), three(None, Some(12)), &[])?;
-    expect_finished(&rt, &world, 2, 1);
-    let falling = run(rt.alloc(), three(None, Some(12)), &[2, 1, 0, 2, 1, 0])?;
-    expect_finished(&rt, &falling, 2, 1);
+    let world = run(rt.alloc(), three(None, Some(14)), &[])?;
+    expect_two_alive(&rt, &world);
+    let falling = run(rt.alloc(), three(None, Some(14)), &[2, 1, 0, 2, 1, 0])?;
+    expect_two_alive(&rt, &falling);
     Ok(())
 }
 
@@ -149,16 +184,16 @@ fn deaths_of_both_holders_lose_a_part(rt: HostRuntime) -> Result<(), Fail> {
     Ok(())
 }
 
-// The most ranks and steps, with an item a rank and a snapshot after each 16 steps.
-fn most() -> TallySetup
+// The most ranks and steps, with a bead a rank and a snapshot after each 16 steps.
+fn most() -> BeadSetup
     ensures { result.ranks ≡ 32 }
 {
-    TallySetup::new(32, 32, 128, 16, 0, [None; 32])
+    BeadSetup::new(32, 32, 128, 16, 0, [None; 32])
 }
 
-// In each step every rank sends to each of the 31 others and receives from it: 128 * 32 * 31 * 2 = 253,952 events.
-// Each step adds the sum of all values, which is 528 at first and 33 times that after it. So each value grows by
-// 528 * (33^128 - 1) / 32, which is 2,693,826,560 modulo 2^32.
+// In each step every rank sends to each of the 31 others and receives from it, where beads move: 128 * 32 * 31 * 2 = 253,952
+// events beside those of neighbours. Bead k grows by 128 k and by 0 + 1 + .. + 127 = 8,128. It moves 64 times, so it comes
+// home after two rounds through all ranks.
 #[test]
 fn the_most_ranks_take_the_most_steps(rt: HostRuntime) -> Result<(), Fail> {
     let world = run(rt.alloc(), most(), &[])?;
@@ -166,8 +201,8 @@ fn the_most_ranks_take_the_most_steps(rt: HostRuntime) -> Result<(), Fail> {
     assert!(rt; world.journal().len() > 253_952);
     assert_eq!(rt; world.parcels().len(), 32);
     for rank in 0..32u32 {
-        let value = rank.wrapping_add(2_693_826_561);
-        assert!(rt; is_given(world.parcels(), rank, value));
+        let value = rank.wrapping_mul(129).wrapping_add(8_129);
+        assert!(rt; is_given(world.parcels(), rank, rank, value));
     }
     Ok(())
 }
@@ -178,10 +213,10 @@ fn the_most_ranks_take_the_most_steps(rt: HostRuntime) -> Result<(), Fail> {
 fn five_worlds_have_more_than_a_million_events(rt: HostRuntime) -> Result<(), Fail> {
     let mut events = 0usize;
     for shift in 0..5u32 {
-        let setup = TallySetup::new(32, 32, 128, 16, shift, [None; 32]);
+        let setup = BeadSetup::new(32, 32, 128, 16, shift, [None; 32]);
         let world = run(rt.alloc(), setup, &[])?;
         assert_eq!(rt; world.outcome(), Some(Outcome::Finished));
-        assert!(rt; is_given(world.parcels(), 0, 2_693_826_561));
+        assert!(rt; is_given(world.parcels(), 31, 31, 12_128));
         events = events.wrapping_add(world.journal().len());
     }
     assert!(rt; events > 1_269_760);

@@ -1,0 +1,71 @@
+-- Which ranks have a bead at the opening.
+use Rattle.std.proofs.Common.{◌≡◌, ◌≢◌, ℕ, suc, zero, ◌+◌, ◌%◌, ◌<◌, ◌≤◌, min, Bool, true, false, cond, List, [], ◌∷◌, arith, refl, ap, sym, ◌∙◌, subst}
+use Rattle.std.specs.Prelude.{◌==◌, ◌||◌, nat_lt, filter}
+use Rattle.std.specs.List.{range_with_len, list_any}
+use Rattle.std.proofs.lemmas.Bool.{cases_lt, or_right, eq-eqb}
+use Rattle.std.proofs.lemmas.Bool.Decides.{nat_tests}
+use Rattle.std.proofs.Math.Nat.{mod-eq_of_lt}
+use Rattle.std.proofs.Common.{inl, inr}
+use Rattle.bf_buddy.specs.Members.{is_member}
+use Rattle.bf_parts.specs.Leaves.{is_filled}
+use Rattle.bf_parts.specs.MergeLaws.{filter_alike}
+use Rattle.bf_parts.specs.Seats.{all_members, range_within}
+use Rattle.bf_beads.specs.declared.setup.BeadSetup.{BeadSetup}
+use Rattle.bf_beads.specs.Meanings.{beads}
+use Rattle.bf_beads.specs.Row.{row, beads_at, home_in}
+
+any_in : (p : ℕ → Bool) (first count k : ℕ) → first ≤ k → k < first + count → p k ≡ true → list_any p (range_with_len first count) ≡ true
+any_in p first zero k low high passes = absurd (omega arith)
+any_in p first (suc count) k low high passes =
+    elim (cases_lt first k) [
+      | inl below ↦ or_right (p first) (list_any p (range_with_len (first + 1) count)) (any_in p (first + 1) count k (omega (arith, below)) (omega arith) passes)
+      | inr above ↦ let same : first ≡ k = omega (arith, above) in let here : p first ≡ true = ap p same ∙ passes in rw here refl
+    ]
+
+none_in : (p : ℕ → Bool) (first count : ℕ) → ((k : ℕ) → k < first + count → p k ≡ false) → list_any p (range_with_len first count) ≡ false
+none_in p first zero fails = refl
+none_in p first (suc count) fails =
+    let here : p first ≡ false = fails first (omega arith) in
+    let later : list_any p (range_with_len (first + 1) count) ≡ false = none_in p (first + 1) count (λ k below. fails k (omega (arith, below))) in
+    rw (here, later) refl
+
+-- a rank is filled that is below the number of beads
+filled_is : (count ranks rank : ℕ) → rank < ranks → is_filled (beads_at count 0) (home_in ranks) rank ≡ nat_lt rank (min count ranks)
+unfolding is_filled row
+filled_is count ranks rank below =
+    elim (cases_lt rank count) [
+      | inl few ↦ any_in (λ k. k % ranks == rank) 0 count rank (omega arith) (omega (arith, few)) (eq-eqb (rank % ranks) rank (mod-eq_of_lt below)) ∙ sym (yes few)
+      | inr many ↦ none_in (λ k. k % ranks == rank) 0 count (λ k low. other k (omega (arith, low, many, below)) (omega (arith, low, many))) ∙ sym (no many)
+    ]
+  where
+    yes : rank < count → nat_lt rank (min count ranks) ≡ true
+    yes few = let least : rank < min count ranks = omega (arith, few, below) in grind (arith, nat_tests, least)
+
+    no : count ≤ rank → nat_lt rank (min count ranks) ≡ false
+    no many = let least : min count ranks ≤ rank = omega (arith, many) in grind (arith, nat_tests, least)
+
+    other : (k : ℕ) → k < ranks → k < rank → (k % ranks == rank) ≡ false
+    other k in_ranks low = let same : k % ranks ≡ k = mod-eq_of_lt in_ranks in rw same (grind (arith, nat_tests))
+
+-- the ranks below a bound
+lower_none : (bound first count : ℕ) → bound ≤ first → filter (λ rank. nat_lt rank bound) (range_with_len first count) ≡ []
+lower_none bound first zero low = refl
+lower_none bound first (suc count) low =
+    let here : nat_lt first bound ≡ false = grind (arith, nat_tests) in
+    let later : filter (λ rank. nat_lt rank bound) (range_with_len (first + 1) count) ≡ [] = lower_none bound (first + 1) count (omega arith) in
+    rw (here, later) refl
+
+lower_part : (bound first few count : ℕ) → bound ≡ first + few → few ≤ count → filter (λ rank. nat_lt rank bound) (range_with_len first count) ≡ range_with_len first few
+lower_part bound first zero count is within = lower_none bound first count (omega arith)
+lower_part bound first (suc few) zero is within = absurd (omega arith)
+lower_part bound first (suc few) (suc count) is within =
+    let here : nat_lt first bound ≡ true = grind (arith, nat_tests) in
+    let later : filter (λ rank. nat_lt rank bound) (range_with_len (first + 1) count) ≡ range_with_len (first + 1) few = lower_part bound (first + 1) few count (omega arith) (omega arith) in
+    rw here (ap (λ rest. first ∷ rest) later)
+
+pub laid_is : (setup : BeadSetup) → range_with_len 0 (min setup.beads setup.ranks) ≡ beads.laid setup
+laid_is setup =
+    sym (filter_alike (λ rank. rank < setup.ranks) (is_filled (beads_at setup.beads 0) (home_in setup.ranks)) (λ rank. nat_lt rank (min setup.beads setup.ranks))
+    (λ rank below. filled_is setup.beads setup.ranks rank below) (range_with_len 0 setup.ranks)
+    (all_members (λ rank. rank < setup.ranks) (range_with_len 0 setup.ranks) (λ rank is_in. let low : rank < 0 + setup.ranks = range_within 0 setup.ranks rank is_in in omega (arith, low)))
+    ∙ lower_part (min setup.beads setup.ranks) 0 (min setup.beads setup.ranks) setup.ranks (omega arith) (omega arith))
