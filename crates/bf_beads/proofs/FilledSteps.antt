@@ -9,7 +9,7 @@ use Rattle.std.proofs.Common.{inl, inr}
 use Rattle.bf_buddy.specs.Members.{is_member}
 use Rattle.bf_parts.specs.Leaves.{is_filled}
 use Rattle.bf_parts.specs.MergeLaws.{filter_alike}
-use Rattle.bf_parts.specs.Seats.{all_members, range_within}
+use Rattle.bf_buddy.proofs.MemberLemmas.{all_members, range_within}
 use Rattle.bf_beads.specs.declared.setup.BeadSetup.{BeadSetup}
 use Rattle.bf_beads.specs.Meanings.{beads}
 use Rattle.bf_beads.specs.Row.{row, beads_at, home_in}

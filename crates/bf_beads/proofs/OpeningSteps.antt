@@ -6,7 +6,7 @@ use Rattle.std.proofs.lemmas.List.{map-append, append-nil}
 use Rattle.std.proofs.lemmas.List.FromFn.{filter_of_map_range_with_len_more}
 use Rattle.bf_buddy.specs.Members.{is_member}
 use Rattle.bf_parts.specs.Leaves.{part_of}
-use Rattle.bf_parts.specs.Seats.{member_range}
+use Rattle.bf_buddy.proofs.MemberLemmas.{member_range}
 use Rattle.bf_beads.specs.Row.{row, is_beside, link_to, links_of, value_at, bead_at, beads_at}
 
 pub rank_in : (ranks rank : ℕ) → rank < ranks → IsTrue (is_member (range_with_len 0 ranks) rank)

@@ -10,14 +10,12 @@ use Rattle.bf_parts.specs.declared.side.Side.{Side}
 use Rattle.bf_parts.specs.Bools.{eqb_swap}
 use Rattle.bf_parts.specs.Leaves.{AreAmong, part_of, side_at}
 use Rattle.bf_parts.specs.MergeLaws.{filter_alike}
-use Rattle.bf_parts.specs.Seats.{all_members}
+use Rattle.bf_buddy.proofs.MemberLemmas.{all_members}
 use Rattle.bf_parts.specs.Sides.{gives}
 use Rattle.bf_parts.specs.SnapshotRounds.{are_paired}
 use Rattle.bf_rounds.specs.Canonical.{KeepsTelling}
 use Rattle.bf_rounds.proofs.PointLemmas.{first_told, told_its}
-use Rattle.bf_stages.specs.Scenes.{telling_of}
-use Rattle.bf_stages.specs.Stages.{scene_of}
-use Rattle.bf_stages.proofs.StageLemmas.{rounds_staged}
+use Rattle.bf_stages.specs.Stages.{telling_of}
 use Rattle.bf_stages.proofs.StartLemmas.{keeps_telling}
 use Rattle.bf_beads.specs.declared.bead.Bead.{Bead}
 use Rattle.bf_beads.specs.declared.local.BeadLocal.{BeadLocal}
@@ -35,8 +33,8 @@ use Rattle.bf_beads.specs.RowLaws.{part_among}
 use Rattle.bf_beads.specs.SpanLaws.{staged}
 use Rattle.bf_beads.specs.Stages.{stage_of}
 
-keeps : (setup : BeadSetup) → KeepsTelling beads (telling_of beads (scene_of staging)) setup
-keeps setup = keeps_telling beads (scene_of staging) bead_kind setup pieces (rounds_staged beads staging bead_kind setup (staged setup) pieces (has_stages setup))
+keeps : (setup : BeadSetup) → KeepsTelling beads (telling_of beads staging) setup
+keeps setup = keeps_telling beads staging setup (staged setup) pieces (has_stages setup)
 
 -- who is asked for is who is a peer
 none_passes : (members : List ℕ) → filter (λ other. false) members ≡ []
@@ -63,7 +61,7 @@ peers_at shift epoch local Over is_in = none_passes epoch.members
 pub peers_are : (setup : BeadSetup) (epoch : Epoch) (round : ℕ) (local : BeadLocal) → IsFirst beads IsGood setup epoch round local
     → filter (is_peer (stage_of epoch round) epoch.members setup.shift local) epoch.members ≡ beads.peers setup local epoch round
 peers_are setup epoch round local first =
-    let told = first_told beads (telling_of beads (scene_of staging)) setup (keeps setup) (lawful_beads setup).goods epoch round local first in
+    let told = first_told beads (telling_of beads staging) setup (keeps setup) (lawful_beads setup).goods epoch round local first in
     peers_at setup.shift epoch local (stage_of epoch round) (ap (λ (l : BeadLocal). is_member epoch.members l.rank) told.is ∙ told.member)
 
 -- the owners in the links of a side that is told are homes
@@ -80,7 +78,7 @@ side_among count time homes shift home rank housed = (part_among count time home
 
 restoring_among : (setup : BeadSetup) (epoch : Epoch) (rank : ℕ) (local : BeadLocal) → IsRestoring beads IsGood setup epoch rank local → AreAmongHomes local.active
 restoring_among setup epoch rank local point =
-    let at = told_its beads (telling_of beads (scene_of staging)) setup (keeps setup) point.before point.round point.locals rank point.agreed point.is_good point.its in
+    let at = told_its beads (telling_of beads staging) setup (keeps setup) point.before point.round point.locals rank point.agreed point.is_good point.its in
     subst AreAmongHomes (sym (point.same ∙ ap (λ (l : BeadLocal). l.active) at.1))
     (side_among setup.beads point.before.time point.before.homes setup.shift point.is_good.world.home rank point.is_good.fits.housed)
 

@@ -7,11 +7,10 @@ use Rattle.bf_parts.specs.Spreads.{Trio}
 use Rattle.bf_rounds.specs.Canonical.{IsTold}
 use Rattle.bf_rounds.specs.Courses.{Course}
 use Rattle.bf_rounds.specs.Gathering.{gathered, gathering}
-use Rattle.bf_stages.specs.Leading.{alone, lifted}
+use Rattle.bf_rounds.specs.Leading.{alone, lifted}
 use Rattle.bf_stages.specs.Moves.{Hand, move_course}
-use Rattle.bf_stages.specs.Scenes.{World, telling_of}
-use Rattle.bf_stages.specs.Snapshots.{snapshot_course}
-use Rattle.bf_stages.specs.Stages.{Staging, scene_of}
+use Rattle.bf_stages.specs.Stages.{World, telling_of, Staging}
+use Rattle.bf_stages.specs.Snapshots.{sees_paired, snapshot_course}
 use Rattle.bf_beads.specs.declared.bead.Bead.{Bead}
 use Rattle.bf_beads.specs.declared.local.BeadLocal.{BeadLocal}
 use Rattle.bf_beads.specs.declared.message.BeadMessage.{BeadMessage}
@@ -84,7 +83,7 @@ course_of count shift epoch (Tell time) world = lifted (local_of_hand count shif
 course_of count shift epoch (Grow time) world =
     alone (Told []) (λ rank. local_of_hand count shift epoch world rank (hand_at count time world.owner rank (heard_at count time epoch.members world.owner rank)))
 course_of count shift epoch (Move time) world = lifted (local_of_hand count shift epoch world) Moved (moves_course count epoch time world.owner)
-course_of count shift epoch Snapshot world = lifted (λ rank view. local_with view []) Copied (snapshot_course shift epoch (last_trio count epoch) world.owner world.home)
+course_of count shift epoch Snapshot world = lifted (λ rank view. local_with view []) Copied (snapshot_course (sees_paired shift) shift epoch (last_trio count epoch) world.owner world.home)
 course_of count shift epoch Over world = alone (Told []) (λ rank. local_of_hand count shift epoch world rank (hand_at count epoch.target world.owner rank []))
 
 -- the epochs that come up
@@ -111,4 +110,4 @@ staging = record {
 }
 
 abbrev pub IsGood : BeadSetup → Epoch → (round : ℕ) → List BeadLocal → Type 0
-IsGood = IsTold (telling_of beads (scene_of staging))
+IsGood = IsTold (telling_of beads staging)

@@ -1,7 +1,7 @@
 -- What of a local and of a message a round works on.
 use Rattle.std.specs.Prelude.{List, [], Option, Some, None}
 use Rattle.bf_parts.specs.Views.{View}
-use Rattle.bf_stages.specs.Leading.{Lens}
+use Rattle.bf_rounds.specs.Leading.{Lens}
 use Rattle.bf_stages.specs.Moves.{Hand}
 use Rattle.bf_beads.specs.declared.bead.Bead.{Bead}
 use Rattle.bf_beads.specs.declared.local.BeadLocal.{BeadLocal}

@@ -11,17 +11,17 @@ use Rattle.bf_program.specs.declared.epoch.Epoch.{Epoch}
 use Rattle.bf_program.specs.Laws.{times}
 use Rattle.bf_parts.specs.Leaves.{AreAmong, part_of}
 use Rattle.bf_parts.specs.MergeLaws.{map_twice}
-use Rattle.bf_parts.specs.Seats.{member_filter}
+use Rattle.bf_buddy.proofs.MemberLemmas.{member_filter}
 use Rattle.bf_parts.specs.Views.{View}
 use Rattle.bf_rounds.specs.Courses.{Course}
-use Rattle.bf_stages.specs.Leading.{LeadsBy, as_delivery, Weighs, lifted}
+use Rattle.bf_rounds.specs.Delivering.{as_delivery}
+use Rattle.bf_rounds.specs.Leading.{LeadsBy, Weighs, lifted, Conserves}
 use Rattle.bf_stages.specs.Moves.{Hand, GoesToPeer}
-use Rattle.bf_stages.specs.Scenes.{World, Conserves}
-use Rattle.bf_stages.specs.Snapshots.{snapshot_play, snapshot_course}
-use Rattle.bf_stages.specs.Stages.{Follows, HasStages, IsPlacedAt, local_of_stage, after_stage}
-use Rattle.bf_stages.proofs.LeadLemmas.{gathers_by, alone_by, part_by, lens_part, part_conserves, still_conserves, weighs_conserves}
+use Rattle.bf_stages.specs.Stages.{World, Follows, HasStages, IsPlacedAt, local_of_stage, after_stage}
+use Rattle.bf_stages.specs.Snapshots.{sees_paired, snapshot_play, snapshot_course}
+use Rattle.bf_rounds.proofs.LeadLemmas.{gathers_by, alone_by, part_by, lens_part, part_conserves, still_conserves, weighs_conserves}
 use Rattle.bf_stages.proofs.MoveLemmas.{move_by, move_weighs}
-use Rattle.bf_stages.proofs.SnapshotLemmas.{snapshot_by, snapshot_weighs}
+use Rattle.bf_stages.proofs.SnapshotLemmas.{paired_sight, snapshot_by, snapshot_weighs}
 use Rattle.bf_stages.proofs.StageLemmas.{times_chain}
 use Rattle.bf_beads.specs.declared.bead.Bead.{Bead}
 use Rattle.bf_beads.specs.declared.local.BeadLocal.{BeadLocal}
@@ -195,19 +195,19 @@ module _ (setup : BeadSetup) (epoch : Epoch) where
         part_conserves (λ local. times pieces (pieces.of_local local) unit) (λ msg. times pieces (pieces.of_message msg) unit)
         (λ (view : View Bead). with_number unit view.items) (λ word. 0) (λ rank view. local_with view []) (λ rank view. local_with view []) Copied (λ rank. 0)
         (λ rank view. none_before _ _ (count_numbers unit view.items)) (λ rank view. none_before _ _ (count_numbers unit view.items)) (λ word. refl)
-        epoch.members (snapshot_course setup.shift epoch (last_trio n epoch) world.owner world.home) _
-        (weighs_conserves (λ (view : View Bead). with_number unit view.items) (λ word. 0) (as_delivery (snapshot_play setup.shift epoch)) (snapshot_weighs setup.shift epoch (λ (bead : Bead). bead.number == unit))
-        epoch.members (snapshot_course setup.shift epoch (last_trio n epoch) world.owner world.home) _ _
-        (snapshot_by setup.shift epoch (last_trio n epoch) refl world.owner world.home placed.held.members_rise));
+        epoch.members (snapshot_course (sees_paired setup.shift) setup.shift epoch (last_trio n epoch) world.owner world.home) _
+        (weighs_conserves (λ (view : View Bead). with_number unit view.items) (λ word. 0) (as_delivery (snapshot_play (sees_paired setup.shift) setup.shift epoch)) (snapshot_weighs (sees_paired setup.shift) setup.shift epoch (λ (bead : Bead). bead.number == unit))
+        epoch.members (snapshot_course (sees_paired setup.shift) setup.shift epoch (last_trio n epoch) world.owner world.home) _ _
+        (snapshot_by (sees_paired setup.shift) setup.shift epoch (paired_sight setup.shift epoch.members) (last_trio n epoch) refl world.owner world.home placed.held.members_rise));
   }
     where
       by : (world : World ℕ) → IsPlacedAt beads staging setup epoch Snapshot world
           → LeadsBy (play_of setup.shift epoch Snapshot) epoch.members (course_of n setup.shift epoch Snapshot world) (local_of_stage beads staging setup epoch Snapshot world)
           (local_of_stage beads staging setup epoch Over (after_stage beads staging setup epoch Snapshot world))
-      by world placed = part_by (as_delivery (snapshot_play setup.shift epoch)) (play_of setup.shift epoch Snapshot) (λ rank view. local_with view []) (λ rank view. local_with view []) Copied
-          (lens_part copied_lens (as_delivery (snapshot_play setup.shift epoch)) (λ rank view. local_with view []) (record { taken = λ rank n. refl; given = λ rank n now. refl; read = λ word. refl }))
-          epoch.members (snapshot_course setup.shift epoch (last_trio n epoch) world.owner world.home) _ _
-          (snapshot_by setup.shift epoch (last_trio n epoch) refl world.owner world.home placed.held.members_rise)
+      by world placed = part_by (as_delivery (snapshot_play (sees_paired setup.shift) setup.shift epoch)) (play_of setup.shift epoch Snapshot) (λ rank view. local_with view []) (λ rank view. local_with view []) Copied
+          (lens_part copied_lens (as_delivery (snapshot_play (sees_paired setup.shift) setup.shift epoch)) (λ rank view. local_with view []) (record { taken = λ rank n. refl; given = λ rank n now. refl; read = λ word. refl }))
+          epoch.members (snapshot_course (sees_paired setup.shift) setup.shift epoch (last_trio n epoch) world.owner world.home) _ _
+          (snapshot_by (sees_paired setup.shift) setup.shift epoch (paired_sight setup.shift epoch.members) (last_trio n epoch) refl world.owner world.home placed.held.members_rise)
 
 pub has_stages : (setup : BeadSetup) → HasStages beads staging setup pieces
 has_stages setup epoch runs =

@@ -5,10 +5,10 @@ use Rattle.bf_buddy.specs.Members.{is_member}
 use Rattle.bf_buddy.specs.Buddy.{buddy_of}
 use Rattle.bf_program.specs.declared.epoch.Epoch.{Epoch}
 use Rattle.bf_rounds.specs.Gathering.{Play}
-use Rattle.bf_rounds.specs.Delivering.{Delivery}
-use Rattle.bf_stages.specs.Leading.{as_delivery, through}
+use Rattle.bf_rounds.specs.Delivering.{Delivery, as_delivery}
+use Rattle.bf_rounds.specs.Leading.{through}
 use Rattle.bf_stages.specs.Moves.{Hand, move_play}
-use Rattle.bf_stages.specs.Snapshots.{snapshot_play}
+use Rattle.bf_stages.specs.Snapshots.{sees_paired, snapshot_play}
 use Rattle.bf_beads.specs.declared.bead.Bead.{Bead}
 use Rattle.bf_beads.specs.declared.bead.Link.{Link}
 use Rattle.bf_beads.specs.declared.local.BeadLocal.{BeadLocal}
@@ -67,5 +67,5 @@ abbrev pub play_of : (shift : ℕ) → Epoch → Stage → Delivery BeadLocal Be
 play_of shift epoch (Tell time) = through told_lens (as_delivery tell_play)
 play_of shift epoch (Grow time) = grow_play time
 play_of shift epoch (Move time) = through moved_lens (bead_move epoch.members time)
-play_of shift epoch Snapshot = through copied_lens (as_delivery (snapshot_play shift epoch))
+play_of shift epoch Snapshot = through copied_lens (as_delivery (snapshot_play (sees_paired shift) shift epoch))
 play_of shift epoch Over = grow_play epoch.target

@@ -11,7 +11,7 @@ use Rattle.bf_parts.specs.Counts.{member_once}
 use Rattle.bf_parts.specs.CoverLaws.{count_mapped}
 use Rattle.bf_parts.specs.Leaves.{AreLeaves, AreAmong, part_of}
 use Rattle.bf_parts.specs.MergeLaws.{map_twice}
-use Rattle.bf_parts.specs.Seats.{range_rises, range_has}
+use Rattle.bf_buddy.proofs.MemberLemmas.{range_rises, range_has}
 use Rattle.bf_beads.specs.declared.bead.Bead.{Bead}
 use Rattle.bf_beads.specs.declared.bead.Link.{Link}
 use Rattle.bf_beads.specs.Row.{row, is_beside, link_to, with_owner, links_of, grown, value_at, bead_at, beads_at, bead_kind, IsOwnedAmong, numbers_of}

@@ -7,9 +7,9 @@ use Rattle.std.proofs.lemmas.List.Elements.{All-nil, All-cons}
 use Rattle.std.proofs.Math.Nat.{mod-lt}
 use Rattle.bf_program.specs.declared.epoch.Epoch.{Epoch}
 use Rattle.bf_program.specs.Laws.{KeepsLimits}
-use Rattle.bf_parts.specs.Seats.{range_has}
+use Rattle.bf_buddy.proofs.MemberLemmas.{range_has}
 use Rattle.bf_parts.specs.Views.{View}
-use Rattle.bf_stages.specs.Leading.{as_delivery}
+use Rattle.bf_rounds.specs.Delivering.{as_delivery}
 use Rattle.bf_stages.specs.Snapshots.{heard_part}
 use Rattle.bf_stages.specs.Stages.{head_of, IsStaged, KeepsSide, HasSides, HasSpans, HasPieces}
 use Rattle.bf_stages.proofs.StageLemmas.{lens_keeps}
