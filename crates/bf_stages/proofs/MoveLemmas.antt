@@ -82,7 +82,7 @@ front_apart (d ∷ done) rest x apart = at (d == x) refl (front_apart done rest 
 module _ {K N I : Type 0} (first : I → I → Bool) (keys : List K) (item item_after : K → I) (rising : AllPairs (Precedes first item) keys) (old new : K → ℕ) (known : ℕ → N) (peers : ℕ → List ℕ)
     (talks : (members : List ℕ) → Hand N I → List ℕ) (going : (rank : ℕ) → N → I → ℕ) (settle : (rank : ℕ) → N → I → I)
     (members : List ℕ) (sees : ℕ → ℕ → Bool) (up : IsStrictlyIncreasing members) (seen_both : AreMutual members sees peers)
-    (talks_is : (rank : ℕ) → IsTrue (is_member members rank) → talks members (hand_of first keys item old new known peers rank item (λ k. old k == rank)) ≡ peers rank)
+    (talks_is : (rank : ℕ) → IsTrue (is_member members rank) → talks members (hand_of keys known rank item (λ k. old k == rank)) ≡ peers rank)
     (going_is : (rank : ℕ) → IsTrue (is_member members rank) → All (λ k. (old k == rank) ≡ true → going rank (known rank) (item k) ≡ new k) keys)
     (settle_is : (rank : ℕ) → IsTrue (is_member members rank) → All (λ k. (new k == rank) ≡ true → settle rank (known rank) (item k) ≡ item_after k) keys)
     (owned : All (λ k. is_member members (old k) ≡ true) keys) (to_peers : All (GoesToPeer first keys item old new known peers) keys) where
@@ -160,7 +160,7 @@ module _ {K N I : Type 0} (first : I → I → Bool) (keys : List K) (item item_
   both_all ks one two = λ i d within. (one i d within, two i d within)
 
   all_there : (rank : ℕ) → IsTrue (is_member members rank)
-      → fold (λ items peer. merged first items (goes first keys item old new known peers peer rank)) (goes first keys item old new known peers rank rank) (peers rank) ≡ map item (filter (λ k. new k == rank) keys)
+      → fold (λ items peer. merged first items (goes keys item old new peer rank)) (goes keys item old new rank rank) (peers rank) ≡ map item (filter (λ k. new k == rank) keys)
   all_there rank member =
       gathered_is first item keys rising old (λ k. new k == rank) (peers rank) (λ k. old k == rank) (rising_apart (peers rank) (peers_rise members sees peers up seen_both rank member))
       (λ k its. ap (is_member (peers rank)) (eqb-true (old k) rank its) ∙ apart_self rank member)
@@ -168,7 +168,7 @@ module _ {K N I : Type 0} (first : I → I → Bool) (keys : List K) (item item_
       (λ k. new k == rank && (old k == rank || is_member (peers rank) (old k))) (λ k. new k == rank) (λ k has. have_test rank member k has) keys (both_all keys owned to_peers))
 
   pub move_by : LeadsBy (move_play first talks going settle) members (move_course first keys item old new known peers)
-      (λ rank. hand_of first keys item old new known peers rank item (λ k. old k == rank)) (λ rank. hand_of first keys item old new known peers rank item_after (λ k. new k == rank))
+      (λ rank. hand_of keys known rank item (λ k. old k == rank)) (λ rank. hand_of keys known rank item_after (λ k. new k == rank))
   move_by = record {
     peers = talks_is;
     rising = peers_rise members sees peers up seen_both;
@@ -183,7 +183,7 @@ module _ {K N I : Type 0} (first : I → I → Bool) (keys : List K) (item item_
         filter_mapped (λ i. not (going rank (known rank) i == to)) item (λ k. old k == rank && not (is_member done (new k))) keys
         ∙ ap (map item) (filter_alike (λ k. (old k == rank) ≡ true → going rank (known rank) (item k) ≡ new k) (λ k. (old k == rank && not (is_member done (new k))) && not (going rank (known rank) (item k) == to))
         (λ k. old k == rank && not (is_member (done ++ to ∷ []) (new k))) (left_test rank to done) keys (going_is rank member)) in
-        let gone : filter (λ i. going rank (known rank) i == to) (map item (filter (λ k. old k == rank && not (is_member done (new k))) keys)) ≡ goes first keys item old new known peers rank to =
+        let gone : filter (λ i. going rank (known rank) i == to) (map item (filter (λ k. old k == rank && not (is_member done (new k))) keys)) ≡ goes keys item old new rank to =
         filter_mapped (λ i. going rank (known rank) i == to) item (λ k. old k == rank && not (is_member done (new k))) keys
         ∙ ap (map item) (filter_alike (λ k. (old k == rank) ≡ true → going rank (known rank) (item k) ≡ new k) (λ k. (old k == rank && not (is_member done (new k))) && going rank (known rank) (item k) == to) (λ k. new k == to && old k == rank)
         (sent_test rank to done fresh) keys (going_is rank member)) in
@@ -192,7 +192,7 @@ module _ {K N I : Type 0} (first : I → I → Bool) (keys : List K) (item item_
         (filter_alike (GoesToPeer first keys item old new known peers) (λ k. old k == rank && not (is_member (peers rank) (new k))) (λ k. new k == rank && old k == rank)
         (λ k to_peer. stay_test rank member k to_peer) keys to_peers);
     take = λ rank peer done rest member is. ap (λ (xs : List I). record { rank = rank; known = known rank; items = xs })
-        (sym (fold-append (λ items peer. merged first items (goes first keys item old new known peers peer rank)) (goes first keys item old new known peers rank rank) done (peer ∷ [])));
+        (sym (fold-append (λ items peer. merged first items (goes keys item old new peer rank)) (goes keys item old new rank rank) done (peer ∷ [])));
     finish = λ rank member. ap (λ (xs : List I). record { rank = rank; known = known rank; items = xs })
         (ap (map (settle rank (known rank))) (all_there rank member)
         ∙ settled (settle rank (known rank)) item item_after (λ k. new k == rank) keys (settle_is rank member));

@@ -21,13 +21,13 @@ use Rattle.bf_rounds.proofs.VectorLemmas.{map_members}
 use Rattle.bf_rounds.specs.Canonical.{KeepsTelling, KeepsStarts}
 use Rattle.bf_parts.specs.declared.side.Side.{Side}
 use Rattle.bf_parts.specs.CoverLaws.{count_told, parts_counted}
-use Rattle.bf_parts.specs.Leaves.{Kind, Leaves, AreAmong, part_of, is_filled, side_at}
+use Rattle.bf_parts.specs.Leaves.{Kind, Leaves, AreAmong, part_of, is_filled}
 use Rattle.bf_parts.specs.Spreads.{view_at, kept_view, restored_view}
 use Rattle.bf_parts.specs.StockLaws.{owner_filled}
 use Rattle.bf_parts.specs.ViewLaws.{begun_trio, kept_seen, restored_seen, stored_seen}
-use Rattle.bf_parts.specs.Views.{View, IsStocked, IsHeld}
+use Rattle.bf_parts.specs.Views.{View, IsHeld}
 use Rattle.bf_stages.proofs.ChainLemmas.{head_is, chain_at, beyond}
-use Rattle.bf_stages.specs.Stages.{World, Staging, stage_at, trio_of, view_of, local_of_stage, after_stage, IsPlacedAt, IsPlaced, local_told, telling_of, IsStaged, Follows, HasStages, HasSides, HasSpans}
+use Rattle.bf_stages.specs.Stages.{World, Staging, stage_at, trio_of, view_of, local_of_stage, after_stage, IsPlaced, local_told, telling_of, IsStaged, Follows, HasStages, HasSides, HasSpans}
 
 -- what told locals have stored, and what they have together
 module _ {S K I L N M T G : Type 0} (m : Meanings S L M T (Side I)) (st : Staging S K I L N M G) (kind : Kind I) (setup : S) (sides : HasSides m st kind setup) where
