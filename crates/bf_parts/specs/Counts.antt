@@ -1,7 +1,7 @@
--- How many of some items pass a test, and how often a key is among them.
-use Rattle.std.proofs.Common.{◌≡◌, ℕ, suc, zero, ◌+◌, ◌<◌, Bool, true, false, cond, List, [], ◌∷◌, ◌++◌, arith, refl, ap, sym, ◌∙◌}
-use Rattle.std.specs.Prelude.{◌==◌, ◌||◌, map, All}
-use Rattle.std.specs.List.{AllPairs, AllZip, count_by, sum_by, flat_map, range_with_len}
+-- How many of some items pass a test, and sums over members.
+use Rattle.std.proofs.Common.{◌≡◌, ℕ, suc, ◌+◌, ◌<◌, Bool, true, false, cond, List, [], ◌∷◌, ◌++◌, arith, refl, ap, sym, ◌∙◌}
+use Rattle.std.specs.Prelude.{◌==◌, ◌||◌, if◌then◌else◌, All}
+use Rattle.std.specs.List.{AllPairs, count_by, sum_by}
 use Rattle.std.specs.List.Sorted.{IsStrictlyIncreasing}
 use Rattle.std.proofs.lemmas.Bool.{eqb-true, eq-eqb}
 use Rattle.std.proofs.lemmas.Bool.Decides.{nat_tests}
@@ -9,11 +9,10 @@ use Rattle.std.proofs.lemmas.List.Elements.{All-head, All-tail}
 use Rattle.std.proofs.lemmas.List.Kept.{AllPairs-from_increasing}
 use Rattle.std.proofs.lemmas.List.Sums.{sum_by-cons, sum_by-append}
 use Rattle.bf_buddy.specs.Members.{is_member}
-use Rattle.bf_parts.specs.Shares.{held}
-pub use Rattle.bf_parts.specs.Shares.{once}
 
-pub count_none : {X : Type 0} (test : X → Bool) → count_by test [] ≡ 0
-count_none test = refl
+-- one for what passes a test
+abbrev pub once : Bool → ℕ
+once b = if b then 1 else 0
 
 pub count_cons : {X : Type 0} (test : X → Bool) (x : X) (xs : List X) → count_by test (x ∷ xs) ≡ once (test x) + count_by test xs
 count_cons test x xs = sum_by-cons (λ x. cond (test x) 1 0) x xs
@@ -21,38 +20,7 @@ count_cons test x xs = sum_by-cons (λ x. cond (test x) 1 0) x xs
 pub count_append : {X : Type 0} (test : X → Bool) (xs ys : List X) → count_by test (xs ++ ys) ≡ count_by test xs + count_by test ys
 count_append test xs ys = sum_by-append (λ x. cond (test x) 1 0) xs ys
 
-pub held_none : {I : Type 0} (key : I → ℕ) (k : ℕ) → held key [] k ≡ 0
-unfolding held
-held_none key k = refl
-
-pub held_cons : {I : Type 0} (key : I → ℕ) (item : I) (items : List I) (k : ℕ) → held key (item ∷ items) k ≡ once (key item == k) + held key items k
-unfolding held
-held_cons key item items k = count_cons (λ i. key i == k) item items
-
-pub held_one : {I : Type 0} (key : I → ℕ) (item : I) (k : ℕ) → held key (item ∷ []) k ≡ once (key item == k)
-held_one key item k = held_cons key item [] k ∙ ap (λ n. once (key item == k) + n) (held_none key k) ∙ omega arith
-
-pub held_append : {I : Type 0} (key : I → ℕ) (xs ys : List I) (k : ℕ) → held key (xs ++ ys) k ≡ held key xs k + held key ys k
-unfolding held
-held_append key xs ys k = count_append (λ item. key item == k) xs ys
-
--- what changes no key changes no count of keys
-pub held_mapped : {I : Type 0} (key : I → ℕ) (f : I → I) (items : List I) (k : ℕ) → ((item : I) → key (f item) ≡ key item) → held key (map f items) k ≡ held key items k
-held_mapped key f [] k same = refl
-held_mapped key f (item ∷ items) k same = held_cons key (f item) (map f items) k
-    ∙ ap (λ i. once (i == k) + held key (map f items) k) (same item)
-    ∙ ap (λ n. once (key item == k) + n) (held_mapped key f items k same)
-    ∙ sym (held_cons key item items k)
-
--- sums over numbers
-pub sums_same : (f g : ℕ → ℕ) (first count : ℕ) → ((k : ℕ) → k < first + count → f k ≡ g k) → sum_by f (range_with_len first count) ≡ sum_by g (range_with_len first count)
-sums_same f g first zero same = refl
-sums_same f g first (suc count) same =
-    sum_by-cons f first (range_with_len (first + 1) count)
-    ∙ ap (λ n. n + sum_by f (range_with_len (first + 1) count)) (same first (omega arith))
-    ∙ ap (λ n. g first + n) (sums_same f g (first + 1) count (λ k below. same k (omega arith)))
-    ∙ sym (sum_by-cons g first (range_with_len (first + 1) count))
-
+-- sums over members
 pub sum_none : (xs : List ℕ) → sum_by (λ x. 0) xs ≡ 0
 sum_none [] = refl
 sum_none (x ∷ xs) = sum_by-cons (λ x. 0) x xs ∙ ap (λ n. 0 + n) (sum_none xs)
@@ -107,16 +75,3 @@ once_each rank amount (member ∷ members) pairs is_in =
 -- so the amounts for it are one
 pub member_once : (rank amount : ℕ) (members : List ℕ) → IsStrictlyIncreasing members → is_member members rank ≡ true → sum_by (amount_at rank amount) members ≡ amount
 member_once rank amount members up is_in = once_each rank amount members (AllPairs-from_increasing members up) is_in
-
--- what locals hold together
-pub held_together : {L I : Type 0} (key : I → ℕ) (items : L → List I) (owner k : ℕ) (members : List ℕ) (locals : List L)
-    → AllZip (λ (member : ℕ) (local : L). held key (items local) k ≡ once (owner == member)) members locals
-    → held key (flat_map items locals) k ≡ count_by (λ member. owner == member) members
-held_together key items owner k [] [] each = held_none key k
-held_together key items owner k [] (local ∷ locals) each = absurd each
-held_together key items owner k (member ∷ members) [] each = absurd each
-held_together key items owner k (member ∷ members) (local ∷ locals) each =
-    held_append key (items local) (flat_map items locals) k
-    ∙ ap (λ n. n + held key (flat_map items locals) k) each.0
-    ∙ ap (λ n. once (owner == member) + n) (held_together key items owner k members locals each.1)
-    ∙ sym (sum_by-cons (λ m. cond (owner == m) 1 0) member members)

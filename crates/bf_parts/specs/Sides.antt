@@ -1,5 +1,5 @@
 -- A rank's side of a snapshot, and who has a copy of whose part.
-use Rattle.std.specs.Prelude.{ℕ, ◌==◌, Bool, ◌&&◌, ◌||◌, not, List, [], ◌++◌, length, if◌then◌else◌}
+use Rattle.std.specs.Prelude.{ℕ, ◌==◌, Bool, ◌&&◌, ◌||◌, not, List, [], length, if◌then◌else◌}
 use Rattle.bf_buddy.specs.Members.{is_member}
 use Rattle.bf_buddy.specs.Buddy.{buddy_of, predecessor_of}
 use Rattle.bf_parts.specs.declared.side.Side.{Side}
@@ -18,10 +18,6 @@ source_of members shift rank = if is_member members rank then predecessor_of mem
 
 abbrev pub has_items : {I : Type 0} → List I → Bool
 has_items items = not (length items == 0)
-
--- the items that a rank goes on with: its own part, and its predecessor's where that is dead
-abbrev pub regained : {I : Type 0} → Side I → (live : List ℕ) → List I
-regained side live = if is_member live side.source then side.own else side.own ++ side.other
 
 -- a home's part of the snapshot, as a rank has it that has this side
 abbrev pub saved_of : {I : Type 0} → Side I → (rank home : ℕ) → List I

@@ -1,12 +1,11 @@
 -- Commits and restores lead from what is seen of told locals to what is seen of told locals; which homes are stored there, and to whom a restore gives what.
-use Rattle.std.proofs.Common.{◌≡◌, ℕ, Bool, true, false, List, map, refl, ap, sym, ◌∙◌, subst}
+use Rattle.std.proofs.Common.{◌≡◌, ℕ, Bool, true, false, List, map, ap, sym, subst}
 use Rattle.std.specs.Prelude.{◌==◌, ◌&&◌, filter}
 use Rattle.std.specs.List.Sorted.{IsStrictlyIncreasing}
 use Rattle.bf_buddy.specs.Members.{is_member}
 use Rattle.bf_program.specs.declared.epoch.Epoch.{Epoch}
 use Rattle.bf_program.specs.Epochs.{epoch_after_commit}
 use Rattle.bf_program.specs.Restores.{heir_of, restored_epoch}
-use Rattle.bf_parts.specs.declared.side.Side.{Side}
 use Rattle.bf_parts.specs.Leaves.{Kind, Leaves, AreLeaves, AreAmong, is_filled, side_at}
 use Rattle.bf_parts.specs.RestoreLaws.{regained_is}
 use Rattle.bf_parts.specs.Sides.{bare, is_given}

@@ -5,6 +5,4 @@ pub mod PieceLemmas
 pub mod SnapshotLemmas
 pub mod MoveLemmas
 pub mod HeirLemmas
-pub mod LookLemmas
 pub mod StageLemmas
-pub mod LeadLemmas

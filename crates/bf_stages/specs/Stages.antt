@@ -53,10 +53,6 @@ pub record Staging (S K I L N M G : Type 0) : Type 1 where
 abbrev pub stage_at : {S K I L N M G : Type 0} → Staging S K I L N M G → S → Epoch → (round : ℕ) → G
 stage_at st setup epoch round = slice_index_or (st.stages setup epoch) round st.last
 
--- the staging itself, under its former name
-abbrev pub scene_of : {S K I L N M G : Type 0} → Staging S K I L N M G → Staging S K I L N M G
-scene_of st = st
-
 -- the first stage, or what stands behind all
 abbrev pub head_of : {G : Type 0} → List G → G → G
 head_of [] last = last
