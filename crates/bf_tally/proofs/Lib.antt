@@ -1,3 +1,0 @@
-pub mod PeerSteps
-pub mod OpeningSteps
-pub mod PlaceSteps
