@@ -10,6 +10,7 @@ use Rattle.bf_buddy.proofs.MemberLemmas.{member_filter}
 use Rattle.bf_buddy.specs.Members.{is_member}
 use Rattle.bf_buddy.specs.Losses.{first_lost_of}
 use Rattle.bf_program.specs.declared.epoch.Epoch.{Epoch}
+use Rattle.bf_program.specs.Epochs.{target_in}
 use Rattle.bf_program.specs.Restores.{heir_of, restored_epoch, restored_locals}
 use Rattle.bf_case.specs.declared.case.Case.{Case}
 use Rattle.bf_case.specs.Map.{Leaf, cells_at, ids_of}
@@ -198,6 +199,11 @@ all_regained setup epoch round locals lives good none =
 pub round_each : (setup : Setup) (epoch : Epoch) (round : ℕ) (locals : List ForestLocal) → IsGood setup epoch round locals → rounds_of epoch ≡ epoch.target - epoch.time + 1
 unfolding IsGood
 round_each setup epoch round locals good = let whole = whole_span setup epoch good.fits.runs in omega (arith, whole)
+
+pub ends_at : (setup : Setup) (epoch : Epoch) (round : ℕ) (locals : List ForestLocal) → IsGood setup epoch round locals
+    → epoch.target ≡ target_in (case_of setup).steps (case_of setup).snapshot epoch
+unfolding IsGood
+ends_at setup epoch round locals good = good.fits.runs.ends
 
 pub some_home : (setup : Setup) (epoch : Epoch) (round : ℕ) (locals : List ForestLocal) → IsGood setup epoch round locals
     → (home : ℕ) × IsTrue (is_member (forest.stored locals) home)

@@ -4,7 +4,7 @@ ghost use Rattle.std.specs.List.{flat_map};
 ghost use Rattle.bf_buddy.specs.Members.{is_member};
 ghost use Rattle.bf_buddy.specs.Losses.{first_lost_of};
 ghost use Rattle.bf_program.specs.declared.epoch.Epoch.{Epoch};
-ghost use Rattle.bf_program.specs.Epochs.{first_epoch};
+ghost use Rattle.bf_program.specs.Epochs.{first_epoch, target_in};
 ghost use Rattle.bf_program.specs.Lockstep.{lockstep, next_locals};
 ghost use Rattle.bf_program.specs.Restores.{heir_of, restored_epoch, restored_locals};
 ghost use Rattle.bf_id.specs.Id.{BlockId};
@@ -79,10 +79,13 @@ pub fn a_restore_gives_heirs_their_blocks()
         (restored_locals forest setup epoch lives locals) }
 {}
 
-/// An epoch has a round for each of its steps, and one for the snapshot.
+/// An epoch has a round for each of its steps, and one for the snapshot. One that a restore began makes no step: it only
+/// lays the copies again.
 pub fn an_epoch_has_a_round_for_each_step()
-    ensures { (setup : Setup) (epoch : Epoch) (round : ℕ) (locals : List ForestLocal) → IsGood setup epoch round locals
+    ensures rounds { (setup : Setup) (epoch : Epoch) (round : ℕ) (locals : List ForestLocal) → IsGood setup epoch round locals
         → rounds_of epoch ≡ epoch.target - epoch.time + 1 }
+    ensures target { (setup : Setup) (epoch : Epoch) (round : ℕ) (locals : List ForestLocal) → IsGood setup epoch round locals
+        → epoch.target ≡ target_in (case_of setup).steps (case_of setup).snapshot epoch }
 {}
 
 /// Some home's part of the agreed snapshot has a block.
