@@ -1,12 +1,11 @@
 -- Which ranks have a bead at the opening.
-use Rattle.std.proofs.Common.{◌≡◌, ◌≢◌, ℕ, suc, zero, ◌+◌, ◌%◌, ◌<◌, ◌≤◌, min, Bool, true, false, cond, List, [], ◌∷◌, arith, refl, ap, sym, ◌∙◌, subst}
-use Rattle.std.specs.Prelude.{◌==◌, ◌||◌, nat_lt, filter}
+use Rattle.std.proofs.Common.{◌≡◌, ℕ, suc, zero, ◌+◌, ◌%◌, ◌<◌, ◌≤◌, min, Bool, true, false, [], ◌∷◌, arith, refl, ap, sym, ◌∙◌}
+use Rattle.std.specs.Prelude.{◌==◌, nat_lt, filter}
 use Rattle.std.specs.List.{range_with_len, list_any}
 use Rattle.std.proofs.lemmas.Bool.{cases_lt, or_right, eq-eqb}
 use Rattle.std.proofs.lemmas.Bool.Decides.{nat_tests}
 use Rattle.std.proofs.Math.Nat.{mod-eq_of_lt}
 use Rattle.std.proofs.Common.{inl, inr}
-use Rattle.bf_buddy.specs.Members.{is_member}
 use Rattle.bf_parts.specs.Leaves.{is_filled}
 use Rattle.bf_parts.specs.MergeLaws.{filter_alike}
 use Rattle.bf_buddy.proofs.MemberLemmas.{all_members, range_within}

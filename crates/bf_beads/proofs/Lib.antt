@@ -4,3 +4,4 @@ pub mod MovingSteps
 pub mod OpeningSteps
 pub mod PointSteps
 pub mod FilledSteps
+pub mod LawSteps

@@ -33,7 +33,7 @@ use Rattle.bf_beads.specs.RowLaws.{part_among}
 use Rattle.bf_beads.specs.SpanLaws.{staged}
 use Rattle.bf_beads.specs.Stages.{stage_of}
 
-keeps : (setup : BeadSetup) → KeepsTelling beads (telling_of beads staging) setup
+pub keeps : (setup : BeadSetup) → KeepsTelling beads (telling_of beads staging) setup
 keeps setup = keeps_telling beads staging setup (staged setup) pieces (has_stages setup)
 
 -- who is asked for is who is a peer

@@ -1,5 +1,5 @@
 -- Good vectors of locals: all that can differ between two at one round of one epoch is who owns which bead, and who has which of the agreed snapshot.
-use Rattle.std.specs.Prelude.{ℕ, ◌+◌, ◌≤◌, List, [], filter}
+use Rattle.std.specs.Prelude.{◌≡◌, not, nat_lt, if◌then◌else◌, ℕ, ◌+◌, ◌≤◌, List, [], filter}
 use Rattle.bf_program.specs.declared.epoch.Epoch.{Epoch}
 use Rattle.bf_parts.specs.Leaves.{Leaves, part_of, side_at}
 use Rattle.bf_parts.specs.Sides.{bare}
@@ -22,7 +22,7 @@ use Rattle.bf_beads.specs.Locals.{view_in, local_with}
 use Rattle.bf_beads.specs.Meanings.{beads}
 use Rattle.bf_beads.specs.Rounds.{is_linked, is_neighbor, tell_play, goes_to, others_of, play_of}
 use Rattle.bf_beads.specs.Row.{row, bead_at, beads_at, bead_kind}
-use Rattle.bf_beads.specs.Stages.{stages_of, is_made}
+use Rattle.bf_beads.specs.Stages.{stages_of, stage_of, rounds_of, is_made}
 
 -- the beads at the beginning of a stage
 abbrev pub leaves_of : (count : ℕ) → Epoch → Stage → Leaves ℕ Bead
@@ -111,3 +111,12 @@ staging = record {
 
 abbrev pub IsGood : BeadSetup → Epoch → (round : ℕ) → List BeadLocal → Type 0
 IsGood = IsTold (telling_of beads staging)
+
+-- what a member's local is at the beginning of a round, in a world: its own beads, what it has heard, and its sides of the agreed
+-- snapshot and, once all rounds are done, of the new one
+pub record HasItsPart (setup : BeadSetup) (epoch : Epoch) (round : ℕ) (world : World ℕ) (rank : ℕ) (local : BeadLocal) : Type 0 where
+  pub rank_is : local.rank ≡ rank
+  pub own : local.beads ≡ part_of (leaves_of setup.beads epoch (stage_of epoch round)) world.owner rank
+  pub heard : local.heard ≡ work_of setup.beads epoch (stage_of epoch round) world.owner rank
+  pub active : local.active ≡ side_at epoch.time epoch.homes setup.shift (beads_at setup.beads epoch.time) world.home rank
+  pub spare : local.spare ≡ (if not (nat_lt round (rounds_of epoch)) then side_at epoch.target epoch.members setup.shift (beads_at setup.beads epoch.target) world.owner rank else bare)

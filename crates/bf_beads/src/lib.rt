@@ -27,3 +27,6 @@ pub use opening::{filled, opened};
 pub use program::Beads;
 pub use setup::BeadSetup;
 pub use stage::Stage;
+
+#[cfg(test)]
+mod tests;

@@ -1,0 +1,148 @@
+//! What three ranks with four beads begin with, a step of theirs, and who talks to whom.
+ghost use Rattle.std.specs.Prelude.{◌≡◌};
+
+use crate::calls::{end, hear, send};
+use crate::peers::peers_of;
+use crate::stage::stage_of;
+use crate::{Bead, BeadLocal, BeadMessage, BeadSetup, Beads, Items, Stage, filled, opened};
+use bf_buddy::Members;
+use bf_parts::{Linked, merge};
+use bf_program::{Epoch, Measure, Memory, RankProgram};
+use std::alloc::Global;
+use std::process::Abort;
+use std::test::Fail;
+
+// Three ranks with the beads 0 and 3, 1, and 2; buddies stand one place on.
+fn setup() -> BeadSetup
+    ensures { result.ranks ≡ 3 }
+{
+    let mut deaths = [None; 32];
+    deaths[1] = Some(9);
+    BeadSetup::new(3, 4, 2, 1, 0, deaths)
+}
+
+fn epoch() -> Epoch {
+    Epoch::first(3, 2, 1)
+}
+
+// One message goes from a rank to another.
+fn pass(
+    alloc: Global,
+    stage: Stage,
+    from: &mut BeadLocal,
+    to: &mut BeadLocal,
+) -> Result<(), Memory> {
+    let msg = send(alloc, stage, epoch(), 0, from, to.rank)?;
+    hear(alloc, stage, epoch(), 0, to, from.rank, msg)
+}
+
+fn number_at(beads: &Items<Bead>, place: usize) -> Option<u32> {
+    beads.as_slice().get(place).map(|bead| bead.number)
+}
+
+fn value_at(beads: &Items<Bead>, place: usize) -> Option<u32> {
+    beads.as_slice().get(place).map(|bead| bead.value)
+}
+
+// The owner in a link of a bead.
+fn owner_at(beads: &Items<Bead>, place: usize, link: usize) -> Option<u32> {
+    let bead = beads.as_slice().get(place)?;
+    bead.links.as_slice().get(link).map(|link| link.owner)
+}
+
+fn expect_two(rt: &impl Abort, beads: &Items<Bead>, first: u32, second: u32) {
+    assert_eq!(rt; beads.len(), 2);
+    assert_eq!(rt; number_at(beads, 0), Some(first));
+    assert_eq!(rt; number_at(beads, 1), Some(second));
+}
+
+fn expect_values(rt: &impl Abort, beads: &Items<Bead>, first: u32, second: u32) {
+    assert_eq!(rt; value_at(beads, 0), Some(first));
+    assert_eq!(rt; value_at(beads, 1), Some(second));
+}
+
+fn expect_owners(rt: &impl Abort, beads: &Items<Bead>, first: u32, second: u32) {
+    assert_eq!(rt; owner_at(beads, 0, 0), Some(first));
+    assert_eq!(rt; owner_at(beads, 1, 0), Some(second));
+}
+
+#[test]
+#[tactic(none)]
+fn the_first_rank_begins_with_two_beads_and_a_copy(rt: HostRuntime) -> Result<(), Fail> {
+    let local = opened(rt.alloc(), &setup(), 0)?;
+    expect_two(&rt, &local.beads, 0, 3);
+    expect_values(&rt, &local.beads, 1, 4);
+    expect_owners(&rt, &local.beads, 1, 2);
+    expect_two(&rt, &local.active.own, 0, 3);
+    assert_eq!(rt; number_at(&local.active.other, 0), Some(2));
+    assert_eq!(rt; local.active.other.len(), 1);
+    assert_eq!(rt; filled(&setup()).count(), 3);
+    Ok(())
+}
+
+// Bead 0 goes from the first rank to the second, and bead 2 from the third to the first. Bead 0's neighbour, bead 1, stays
+// with the second rank; bead 2's neighbours stay too.
+#[test]
+#[tactic(none)]
+fn beads_go_to_the_next_member_and_links_follow(rt: HostRuntime) -> Result<(), Fail> {
+    let alloc = rt.alloc();
+    let mut a = opened(alloc, &setup(), 0)?;
+    let mut b = opened(alloc, &setup(), 1)?;
+    let mut c = opened(alloc, &setup(), 2)?;
+    pass(alloc, Stage::Move(0), &mut a, &mut b)?;
+    pass(alloc, Stage::Move(0), &mut c, &mut a)?;
+    end(alloc, Stage::Move(0), epoch(), 0, &mut a)?;
+    end(alloc, Stage::Move(0), epoch(), 0, &mut b)?;
+    expect_two(&rt, &a.beads, 2, 3);
+    expect_owners(&rt, &a.beads, 1, 0);
+    expect_two(&rt, &b.beads, 0, 1);
+    expect_owners(&rt, &b.beads, 1, 1);
+    assert_eq!(rt; c.beads.len(), 0);
+    Ok(())
+}
+
+// In the step from time 7 a bead grows by its number and 7.
+#[test]
+#[tactic(none)]
+fn what_a_neighbour_tells_is_let_go_when_beads_grow(rt: HostRuntime) -> Result<(), Fail> {
+    let alloc = rt.alloc();
+    let mut a = opened(alloc, &setup(), 0)?;
+    let mut b = opened(alloc, &setup(), 1)?;
+    pass(alloc, Stage::Tell(7), &mut b, &mut a)?;
+    assert_eq!(rt; number_at(&a.heard, 0), Some(1));
+    assert_eq!(rt; b.beads.len(), 1);
+    end(alloc, Stage::Grow(7), epoch(), 0, &mut a)?;
+    assert_eq!(rt; a.heard.len(), 0);
+    expect_values(&rt, &a.beads, 8, 14);
+    Ok(())
+}
+
+#[test]
+#[tactic(none)]
+fn who_has_linked_beads_is_told(rt: HostRuntime) -> Result<(), Fail> {
+    let five = BeadSetup::new(5, 5, 2, 1, 0, [None; 32]);
+    let first = opened(rt.alloc(), &five, 0)?;
+    let all = Members::all(5);
+    let told = peers_of(Stage::Tell(0), all, 0, &first);
+    assert_eq!(rt; told.count(), 1);
+    assert_eq!(rt; told.at(0), Some(1));
+    assert_eq!(rt; peers_of(Stage::Grow(0), all, 0, &first).count(), 0);
+    assert_eq!(rt; peers_of(Stage::Move(0), all, 0, &first).count(), 4);
+    let near = peers_of(Stage::Snapshot, all, 0, &first);
+    assert_eq!(rt; near.count(), 2);
+    assert_eq!(rt; near.at(1), Some(4));
+    Ok(())
+}
+
+#[test]
+#[tactic(none)]
+fn a_message_weighs_its_beads(rt: HostRuntime) -> Result<(), Fail> {
+    let mut local = opened(rt.alloc(), &setup(), 0)?;
+    let msg = send(rt.alloc(), Stage::Snapshot, epoch(), 0, &mut local, 1)?;
+    assert_eq!(rt; Beads::measure(&msg), Measure { blocks: 2, sum: 5 });
+    let none = send(rt.alloc(), Stage::Snapshot, epoch(), 0, &mut local, 2)?;
+    assert_eq!(rt; Beads::measure(&none), Measure { blocks: 0, sum: 0 });
+    assert_eq!(rt; Beads::rounds(&setup(), epoch()), 4);
+    assert!(rt; matches!(stage_of(&epoch(), 3), Stage::Snapshot));
+    Ok(())
+}
