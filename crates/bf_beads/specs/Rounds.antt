@@ -63,9 +63,18 @@ others_of members rank = filter (λ other. not (other == rank)) members
 abbrev pub bead_move : (members : List ℕ) → (time : ℕ) → Delivery (Hand (List Bead) Bead) (List Bead)
 bead_move members time = move_play bead_kind.first (λ members hand. others_of members hand.rank) (λ rank known bead. goes_to members time bead.number rank) (λ rank known bead. relinked members time bead)
 
+-- behind all rounds nobody talks and nothing changes
+abbrev pub idle_play : Delivery BeadLocal BeadMessage
+idle_play = record {
+  peers = λ members local. [];
+  out = λ local to. (local, Told []);
+  hear = λ local peer msg. local;
+  finish = λ local. local;
+}
+
 abbrev pub play_of : (shift : ℕ) → Epoch → Stage → Delivery BeadLocal BeadMessage
 play_of shift epoch (Tell time) = through told_lens (as_delivery tell_play)
 play_of shift epoch (Grow time) = grow_play time
 play_of shift epoch (Move time) = through moved_lens (bead_move epoch.members time)
 play_of shift epoch Snapshot = through copied_lens (as_delivery (snapshot_play (sees_paired shift) shift epoch))
-play_of shift epoch Over = grow_play epoch.target
+play_of shift epoch Over = idle_play

@@ -6,7 +6,7 @@ ghost use Rattle.bf_beads.specs.Row.{with_owner, grown};
 
 use crate::Items;
 use bf_buddy::Members;
-use bf_parts::Linked;
+use bf_parts::{Linked, heir};
 use bf_program::Memory;
 use std::alloc::Global;
 
@@ -47,18 +47,6 @@ impl Bead {
             value,
             links: self.links,
         }
-    }
-}
-
-// Who goes on for an owner.
-fn heir(homes: Members, live: Members, shift: u32, owner: u32) -> u32
-    requires { IsTrue (is_member homes owner) }
-    ensures { result ≡ heir_of homes live shift owner }
-{
-    if live.has(owner) {
-        owner
-    } else {
-        homes.buddy(owner, shift)
     }
 }
 

@@ -150,14 +150,13 @@ pub fn end(
     ensures { OnOk result (local.new ≡ (play_of shift epoch stage).finish local.old) }
 {
     match stage {
-        Stage::Tell(_) => Ok(()),
+        Stage::Tell(_) | Stage::Over => Ok(()),
         Stage::Grow(time) => grow(alloc, local, time),
         Stage::Move(time) => {
             local.beads = relinked(alloc, epoch.members, time, local.beads.as_slice())?;
             Ok(())
         }
         Stage::Snapshot => snap(alloc, local, epoch, shift),
-        Stage::Over => grow(alloc, local, epoch.target),
     }
 }
 
