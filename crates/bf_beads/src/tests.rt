@@ -4,9 +4,8 @@ ghost use Rattle.std.specs.Prelude.{◌≡◌};
 use crate::calls::{end, hear, send};
 use crate::peers::peers_of;
 use crate::stage::stage_of;
-use crate::{Bead, BeadLocal, BeadMessage, BeadSetup, Beads, Items, Stage, filled, opened};
+use crate::{Bead, BeadLocal, BeadMessage, BeadSetup, Beads, Items, Stage, opened};
 use bf_buddy::Members;
-use bf_parts::{Linked, merge};
 use bf_program::{Epoch, Measure, Memory, RankProgram};
 use std::alloc::Global;
 use std::process::Abort;
@@ -50,6 +49,15 @@ fn owner_at(beads: &Items<Bead>, place: usize, link: usize) -> Option<u32> {
     bead.links.as_slice().get(link).map(|link| link.owner)
 }
 
+fn expect_none(rt: &impl Abort, beads: &Items<Bead>) {
+    assert_eq!(rt; beads.len(), 0);
+}
+
+fn expect_one(rt: &impl Abort, beads: &Items<Bead>, number: u32) {
+    assert_eq!(rt; beads.len(), 1);
+    assert_eq!(rt; number_at(beads, 0), Some(number));
+}
+
 fn expect_two(rt: &impl Abort, beads: &Items<Bead>, first: u32, second: u32) {
     assert_eq!(rt; beads.len(), 2);
     assert_eq!(rt; number_at(beads, 0), Some(first));
@@ -74,9 +82,7 @@ fn the_first_rank_begins_with_two_beads_and_a_copy(rt: HostRuntime) -> Result<()
     expect_values(&rt, &local.beads, 1, 4);
     expect_owners(&rt, &local.beads, 1, 2);
     expect_two(&rt, &local.active.own, 0, 3);
-    assert_eq!(rt; number_at(&local.active.other, 0), Some(2));
-    assert_eq!(rt; local.active.other.len(), 1);
-    assert_eq!(rt; filled(&setup()).count(), 3);
+    expect_one(&rt, &local.active.other, 2);
     Ok(())
 }
 
@@ -97,7 +103,7 @@ fn beads_go_to_the_next_member_and_links_follow(rt: HostRuntime) -> Result<(), F
     expect_owners(&rt, &a.beads, 1, 0);
     expect_two(&rt, &b.beads, 0, 1);
     expect_owners(&rt, &b.beads, 1, 1);
-    assert_eq!(rt; c.beads.len(), 0);
+    expect_none(&rt, &c.beads);
     Ok(())
 }
 
@@ -109,12 +115,18 @@ fn what_a_neighbour_tells_is_let_go_when_beads_grow(rt: HostRuntime) -> Result<(
     let mut a = opened(alloc, &setup(), 0)?;
     let mut b = opened(alloc, &setup(), 1)?;
     pass(alloc, Stage::Tell(7), &mut b, &mut a)?;
-    assert_eq!(rt; number_at(&a.heard, 0), Some(1));
-    assert_eq!(rt; b.beads.len(), 1);
+    expect_one(&rt, &a.heard, 1);
+    expect_one(&rt, &b.beads, 1);
     end(alloc, Stage::Grow(7), epoch(), 0, &mut a)?;
-    assert_eq!(rt; a.heard.len(), 0);
+    expect_none(&rt, &a.heard);
     expect_values(&rt, &a.beads, 8, 14);
     Ok(())
+}
+
+fn expect_peers(rt: &impl Abort, stage: Stage, local: &BeadLocal, count: u32, last: Option<u32>) {
+    let peers = peers_of(stage, Members::all(5), 0, local);
+    assert_eq!(rt; peers.count(), count);
+    assert_eq!(rt; peers.at(count.saturating_sub(1)), last);
 }
 
 #[test]
@@ -122,16 +134,15 @@ fn what_a_neighbour_tells_is_let_go_when_beads_grow(rt: HostRuntime) -> Result<(
 fn who_has_linked_beads_is_told(rt: HostRuntime) -> Result<(), Fail> {
     let five = BeadSetup::new(5, 5, 2, 1, 0, [None; 32]);
     let first = opened(rt.alloc(), &five, 0)?;
-    let all = Members::all(5);
-    let told = peers_of(Stage::Tell(0), all, 0, &first);
-    assert_eq!(rt; told.count(), 1);
-    assert_eq!(rt; told.at(0), Some(1));
-    assert_eq!(rt; peers_of(Stage::Grow(0), all, 0, &first).count(), 0);
-    assert_eq!(rt; peers_of(Stage::Move(0), all, 0, &first).count(), 4);
-    let near = peers_of(Stage::Snapshot, all, 0, &first);
-    assert_eq!(rt; near.count(), 2);
-    assert_eq!(rt; near.at(1), Some(4));
+    expect_peers(&rt, Stage::Tell(0), &first, 1, Some(1));
+    expect_peers(&rt, Stage::Grow(0), &first, 0, None);
+    expect_peers(&rt, Stage::Move(0), &first, 4, Some(4));
+    expect_peers(&rt, Stage::Snapshot, &first, 2, Some(4));
     Ok(())
+}
+
+fn expect_measure(rt: &impl Abort, msg: &BeadMessage, blocks: u32, sum: u64) {
+    assert_eq!(rt; Beads::measure(msg), Measure { blocks, sum });
 }
 
 #[test]
@@ -139,10 +150,16 @@ fn who_has_linked_beads_is_told(rt: HostRuntime) -> Result<(), Fail> {
 fn a_message_weighs_its_beads(rt: HostRuntime) -> Result<(), Fail> {
     let mut local = opened(rt.alloc(), &setup(), 0)?;
     let msg = send(rt.alloc(), Stage::Snapshot, epoch(), 0, &mut local, 1)?;
-    assert_eq!(rt; Beads::measure(&msg), Measure { blocks: 2, sum: 5 });
+    expect_measure(&rt, &msg, 2, 5);
     let none = send(rt.alloc(), Stage::Snapshot, epoch(), 0, &mut local, 2)?;
-    assert_eq!(rt; Beads::measure(&none), Measure { blocks: 0, sum: 0 });
+    expect_measure(&rt, &none, 0, 0);
+    Ok(())
+}
+
+#[test]
+fn an_epoch_of_one_step_has_four_rounds(rt: HostRuntime) -> Result<(), Fail> {
     assert_eq!(rt; Beads::rounds(&setup(), epoch()), 4);
+    assert!(rt; matches!(stage_of(&epoch(), 2), Stage::Move(0)));
     assert!(rt; matches!(stage_of(&epoch(), 3), Stage::Snapshot));
     Ok(())
 }
