@@ -1,3 +1,4 @@
 pub mod Appending
 pub mod Taking
 pub mod PageLemmas
+pub mod SheetLemmas

@@ -133,7 +133,7 @@ breaks_writing {old} {now} {new} {waited} {waits} {bytes} empty p q =
     subst (AppendsPrefix old new) (ap (λ l. l ++ (bytes ++ [])) empty ∙ append-nil bytes) (breaks_after [] p after)
 
 -- one more text of many
-flat_map-take_more : {X : Type 0} (f : X → List ℕ) (xs : List X) (i : ℕ) (d x : X) → i < length xs → x ≡ get_or xs i d
+pub flat_map-take_more : {X : Type 0} (f : X → List ℕ) (xs : List X) (i : ℕ) (d x : X) → i < length xs → x ≡ get_or xs i d
     → flat_map f (take (i + 1) xs) ≡ flat_map f (take i xs) ++ f x
 flat_map-take_more f xs i d x below is =
     ap (flat_map f) (take_more xs i d below ∙ ap (λ y. take i xs ++ y ∷ []) (sym is))

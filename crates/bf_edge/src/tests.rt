@@ -1,7 +1,7 @@
 //! The worked behaviour, and that each call can succeed.
 use crate::{
-    Failed, MemSink, MemSource, PAGE_SIZE, Page, ReadEnd, Sink, Source, StdSink, StdSource, flush,
-    put, put_number, put_numbers, read_up_to, write_all,
+    Failed, MemSink, MemSource, PAGE_SIZE, ReadEnd, Sheet, Sink, Source, StdSink, StdSource,
+    finish, print, print_number, print_numbers, read_up_to, write_all,
 };
 use std::io;
 use std::test::Fail;
@@ -133,13 +133,13 @@ fn an_error_of_std_is_a_failure(rt: HostRuntime) -> Result<(), Fail> {
 #[test]
 fn small_texts_are_written_in_one_call(rt: HostRuntime) -> Result<(), Fail> {
     let mut sink = MemSink::new(rt.alloc(), 64, 64, [2].to_vec(rt.alloc())?)?;
-    let mut page = Page::new();
-    assert_eq!(rt; put(&mut sink, &mut page, b"roots"), Ok(()));
-    assert_eq!(rt; put_numbers(&mut sink, &mut page, &[0, 4294967295]), Ok(()));
-    assert_eq!(rt; put(&mut sink, &mut page, b"\n"), Ok(()));
-    assert_eq!(rt; put_number(&mut sink, &mut page, 10), Ok(()));
+    let mut sheet = Sheet::new();
+    print(&mut sink, &mut sheet, b"roots");
+    print_numbers(&mut sink, &mut sheet, &[0, 4294967295]);
+    print(&mut sink, &mut sheet, b"\n");
+    print_number(&mut sink, &mut sheet, 10);
     assert_eq!(rt; sink.written(), b"".as_slice());
-    assert_eq!(rt; flush(&mut sink, &mut page), Ok(()));
+    assert_eq!(rt; finish(&mut sink, &mut sheet), Ok(()));
     assert_eq!(rt; sink.written(), b"roots 0 4294967295\n10".as_slice());
     Ok(())
 }
@@ -148,14 +148,14 @@ fn small_texts_are_written_in_one_call(rt: HostRuntime) -> Result<(), Fail> {
 fn a_text_longer_than_a_page_is_written(rt: HostRuntime) -> Result<(), Fail> {
     let long = [b'b'; PAGE_SIZE + 1];
     let mut sink = MemSink::new(rt.alloc(), 8192, 8192, Vec::new(rt.alloc()))?;
-    let mut page = Page::new();
-    assert_eq!(rt; put(&mut sink, &mut page, b"a"), Ok(()));
-    assert_eq!(rt; put(&mut sink, &mut page, &long), Ok(()));
-    assert_eq!(rt; put(&mut sink, &mut page, b"c"), Ok(()));
+    let mut sheet = Sheet::new();
+    print(&mut sink, &mut sheet, b"a");
+    print(&mut sink, &mut sheet, &long);
+    print(&mut sink, &mut sheet, b"c");
     assert_eq!(rt; sink.written().len(), PAGE_SIZE + 2);
     assert_eq!(rt; sink.written().first(), Some(&b'a'));
     assert_eq!(rt; sink.written().last(), Some(&b'b'));
-    assert_eq!(rt; flush(&mut sink, &mut page), Ok(()));
+    assert_eq!(rt; finish(&mut sink, &mut sheet), Ok(()));
     assert_eq!(rt; sink.written().last(), Some(&b'c'));
     Ok(())
 }
@@ -163,9 +163,25 @@ fn a_text_longer_than_a_page_is_written(rt: HostRuntime) -> Result<(), Fail> {
 #[test]
 fn a_failure_of_the_sink_ends_a_page(rt: HostRuntime) -> Result<(), Fail> {
     let mut sink = MemSink::new(rt.alloc(), 2, 64, [2].to_vec(rt.alloc())?)?;
-    let mut page = Page::new();
-    assert_eq!(rt; put(&mut sink, &mut page, b"abc"), Ok(()));
-    assert_eq!(rt; flush(&mut sink, &mut page), Err(Failed));
+    let mut sheet = Sheet::new();
+    print(&mut sink, &mut sheet, b"abc");
+    assert_eq!(rt; finish(&mut sink, &mut sheet), Err(Failed));
     assert_eq!(rt; sink.written(), b"ab".as_slice());
+    Ok(())
+}
+
+// Only the first call fails, and no other follows.
+#[test]
+fn a_sink_that_has_failed_is_not_called_again(rt: HostRuntime) -> Result<(), Fail> {
+    let long = [b'b'; PAGE_SIZE + 1];
+    let mut sink = MemSink::new(rt.alloc(), 8192, 8192, [1].to_vec(rt.alloc())?)?;
+    let mut sheet = Sheet::new();
+    print(&mut sink, &mut sheet, &long);
+    print(&mut sink, &mut sheet, &long);
+    print(&mut sink, &mut sheet, b"c");
+    assert_eq!(rt; finish(&mut sink, &mut sheet), Err(Failed));
+    assert_eq!(rt; finish(&mut sink, &mut sheet), Err(Failed));
+    assert_eq!(rt; sink.written(), b"".as_slice());
+    assert_eq!(rt; sink.faults(), 1);
     Ok(())
 }
