@@ -1,8 +1,7 @@
 -- The lines that each case has, put in three parts.
 use Rattle.std.proofs.Common.{◌≡◌, ℕ, List, [], ◌∷◌, ◌++◌, Option, subst, append_assoc}
 use Rattle.std.specs.Prelude.{codes}
-use Rattle.bf_edge.specs.Page.{Puts}
-use Rattle.bf_edge.specs.Sink.{AppendsPrefix}
+use Rattle.bf_edge.specs.Sheet.{SheetValue, Prints}
 use Rattle.bf_case.specs.declared.case.Case.{Case}
 use Rattle.bf_case.specs.CaseText.{line, head_text}
 use Rattle.bf_text.specs.HeadText.{sizes_text, times_text, limits_text}
@@ -21,10 +20,7 @@ head_parts c =
     (line (codes "coarsen") (c.coarsen ∷ [])) (line (codes "flow") (c.flow ∷ [])) (line (codes "turns") (c.turns ∷ []))
     (line (codes "shift") (c.shift ∷ []))
 
-pub head_puts : (c : Case) {old new : Option (List ℕ)} {waited waits : List ℕ} → Puts old new waited waits (sizes_text c ++ (times_text c ++ limits_text c))
-    → Puts old new waited waits (head_text c)
-head_puts c {old} {new} {waited} {waits} = subst (Puts old new waited waits) (head_parts c)
-
-pub head_broken : (c : Case) {old new : Option (List ℕ)} (waited : List ℕ) → AppendsPrefix old new (waited ++ (sizes_text c ++ (times_text c ++ limits_text c)))
-    → AppendsPrefix old new (waited ++ head_text c)
-head_broken c {old} {new} waited = subst (λ text. AppendsPrefix old new (waited ++ text)) (head_parts c)
+pub prints_head : {S : Type 0} {written : S → Option (List ℕ)} {faults : S → ℕ} (c : Case) {old new : S} {before after : SheetValue}
+    → Prints written faults old new before after (sizes_text c ++ (times_text c ++ limits_text c)) → Prints written faults old new before after (head_text c)
+prints_head {written = written} {faults = faults} c {old = old} {new = new} {before = before} {after = after} =
+    subst (Prints written faults old new before after) (head_parts c)
