@@ -1,9 +1,9 @@
 -- A map stays balanced where a cell of a leaf takes another value.
-use Rattle.std.proofs.Common.{◌≡◌, ℕ, ◌^◌, ◌<◌, List, length, get_or, set, refl, sym, subst, ◌∙◌}
+use Rattle.std.proofs.Common.{◌≡◌, ℕ, ◌^◌, ◌<◌, List, length, get_or, set, refl, sym, subst}
 use Rattle.std.proofs.Math.Seq.{map-set_same}
 use Rattle.std.proofs.lemmas.List.Elements.{All-set, All-contains, Contains-get_or}
 use Rattle.bf_id.specs.Id.{BlockId}
-use Rattle.bf_cells.specs.Grid.{Grid, with_cell}
+use Rattle.bf_cells.specs.Grid.{with_cell}
 use Rattle.bf_cells.proofs.CellLemmas.{IsGrid-with_cell}
 use Rattle.bf_case.specs.declared.case.Case.{Case}
 use Rattle.bf_case.specs.Balanced.{AreBalancedLeaves}

@@ -1,14 +1,14 @@
 //! Writing leaves and maps as text.
 ghost use Rattle.std.specs.Prelude.{◌≡◌, [], ◌∷◌, ◌*◌, ◌≤◌, ◌++◌, length, codes, decimal, flat_map, map, OnOk, OnErr};
 ghost use Rattle.bf_edge.specs.Faults.{Rose};
-ghost use Rattle.bf_edge.specs.Page.{Puts};
+ghost use Rattle.bf_edge.specs.Sheet.{Prints};
 ghost use Rattle.bf_edge.specs.Sink.{appended, AppendsPrefix};
 ghost use Rattle.bf_id.specs.IdText.{text_of};
 ghost use Rattle.bf_case.specs.CaseText.{spaced};
 ghost use Rattle.bf_case.specs.MapText.{row_text, grid_text, leaf_text, map_text};
 
 use bf_cells::Cells;
-use bf_edge::{Failed, Page, Sink, flush, put, put_number, put_numbers, write_all};
+use bf_edge::{Failed, Sheet, Sink, finish, print, print_number, print_numbers, write_all};
 use bf_id::Id;
 
 /// What is written as a leaf.
@@ -40,187 +40,89 @@ impl Printed for (Id, Cells) {
 }
 
 // A number, each of the rest after a blank, and the line feed.
-fn put_line<W: Sink>(sink: &mut W, page: &mut Page, first: u32, rest: &[u32]) -> Result<(), Failed>
-    ensures puts { OnOk result (Puts (W.written sink.old) (W.written sink.new) page.old page.new (decimal first ++ (spaced rest.now ++ 10 ∷ []))) }
-    ensures steady { OnOk result (W.faults sink.new ≡ W.faults sink.old) }
-
-    ensures rose { OnErr result (Rose (W.faults sink.old) (W.faults sink.new)) }
-    ensures prefix { OnErr result (AppendsPrefix (W.written sink.old) (W.written sink.new) (page.old ++ (decimal first ++ (spaced rest.now ++ 10 ∷ [])))) }
-    ensures never_falls { W.faults sink.old ≤ W.faults sink.new }
+fn print_line<W: Sink>(sink: &mut W, sheet: &mut Sheet, first: u32, rest: &[u32])
+    ensures { Prints W.written W.faults sink.old sink.new sheet.old sheet.new (decimal first ++ (spaced rest.now ++ 10 ∷ [])) }
 {
-    put_number(sink, page, first)?;
-    put_numbers(sink, page, rest)?;
-    put(sink, page, b"\n")
+    print_number(sink, sheet, first);
+    print_numbers(sink, sheet, rest);
+    print(sink, sheet, b"\n");
 }
 
 // The numbers with one blank between, and the line feed.
-fn put_row<W: Sink>(sink: &mut W, page: &mut Page, values: &[u32]) -> Result<(), Failed>
-    ensures puts { OnOk result (Puts (W.written sink.old) (W.written sink.new) page.old page.new (row_text values.now)) }
-    ensures steady { OnOk result (W.faults sink.new ≡ W.faults sink.old) }
-
-    ensures rose { OnErr result (Rose (W.faults sink.old) (W.faults sink.new)) }
-    ensures prefix { OnErr result (AppendsPrefix (W.written sink.old) (W.written sink.new) (page.old ++ (row_text values.now))) }
-    ensures never_falls { W.faults sink.old ≤ W.faults sink.new }
+fn print_row<W: Sink>(sink: &mut W, sheet: &mut Sheet, values: &[u32])
+    ensures { Prints W.written W.faults sink.old sink.new sheet.old sheet.new (row_text values.now) }
 {
     match values {
-        [] => put(sink, page, b"\n"),
-        [first, rest @ ..] => put_line(sink, page, *first, rest),
+        [] => print(sink, sheet, b"\n"),
+        [first, rest @ ..] => print_line(sink, sheet, *first, rest),
     }
 }
 
 // A cube of values, with one line for each row along x.
-fn put_rows<W: Sink>(
-    sink: &mut W,
-    page: &mut Page,
-    side: usize,
-    values: &[u32],
-) -> Result<(), Failed>
+fn print_rows<W: Sink>(sink: &mut W, sheet: &mut Sheet, side: usize, values: &[u32])
     requires small { side ≤ 16 }
     requires full { length values.now ≡ side * side * side }
-    ensures puts { OnOk result (Puts (W.written sink.old) (W.written sink.new) page.old page.new (grid_text (record { side = side; values = values.now }))) }
-    ensures steady { OnOk result (W.faults sink.new ≡ W.faults sink.old) }
-
-    ensures rose { OnErr result (Rose (W.faults sink.old) (W.faults sink.new)) }
-    ensures prefix { OnErr result (AppendsPrefix (W.written sink.old) (W.written sink.new) (page.old ++ (grid_text (record { side = side; values = values.now })))) }
-    ensures never_falls { W.faults sink.old ≤ W.faults sink.new }
+    ensures { Prints W.written W.faults sink.old sink.new sheet.old sheet.new (grid_text (record { side = side; values = values.now })) }
 {
     for row in 0..side * side {
         let from = side * row;
-        put_row(sink, page, &values[from..from + side])?;
+        print_row(sink, sheet, &values[from..from + side]);
     }
-    Ok(())
 }
 
 // The cells, with one line for each row along x.
-fn put_grid<W: Sink>(sink: &mut W, page: &mut Page, cells: &Cells) -> Result<(), Failed>
-    ensures puts { OnOk result (Puts (W.written sink.old) (W.written sink.new) page.old page.new (grid_text cells.now)) }
-    ensures steady { OnOk result (W.faults sink.new ≡ W.faults sink.old) }
-
-    ensures rose { OnErr result (Rose (W.faults sink.old) (W.faults sink.new)) }
-    ensures prefix { OnErr result (AppendsPrefix (W.written sink.old) (W.written sink.new) (page.old ++ (grid_text cells.now))) }
-    ensures never_falls { W.faults sink.old ≤ W.faults sink.new }
+fn print_grid<W: Sink>(sink: &mut W, sheet: &mut Sheet, cells: &Cells)
+    ensures { Prints W.written W.faults sink.old sink.new sheet.old sheet.new (grid_text cells.now) }
 {
-    put_rows(sink, page, cells.side() as usize, cells.values())
+    print_rows(sink, sheet, cells.side() as usize, cells.values());
 }
 
 // The id's text.
-fn put_id<W: Sink>(sink: &mut W, page: &mut Page, id: Id) -> Result<(), Failed>
-    ensures puts { OnOk result (Puts (W.written sink.old) (W.written sink.new) page.old page.new (text_of id)) }
-    ensures steady { OnOk result (W.faults sink.new ≡ W.faults sink.old) }
-
-    ensures rose { OnErr result (Rose (W.faults sink.old) (W.faults sink.new)) }
-    ensures prefix { OnErr result (AppendsPrefix (W.written sink.old) (W.written sink.new) (page.old ++ (text_of id))) }
-    ensures never_falls { W.faults sink.old ≤ W.faults sink.new }
+fn print_id<W: Sink>(sink: &mut W, sheet: &mut Sheet, id: Id)
+    ensures { Prints W.written W.faults sink.old sink.new sheet.old sheet.new (text_of id) }
 {
-    put(sink, page, id.text().bytes())
+    print(sink, sheet, id.text().bytes());
 }
 
 // The line with a leaf's id.
-fn put_head<W: Sink>(sink: &mut W, page: &mut Page, id: Id) -> Result<(), Failed>
-    ensures puts { OnOk result (Puts (W.written sink.old) (W.written sink.new) page.old page.new (codes "block " ++ (text_of id ++ 10 ∷ []))) }
-    ensures steady { OnOk result (W.faults sink.new ≡ W.faults sink.old) }
-
-    ensures rose { OnErr result (Rose (W.faults sink.old) (W.faults sink.new)) }
-    ensures prefix { OnErr result (AppendsPrefix (W.written sink.old) (W.written sink.new) (page.old ++ (codes "block " ++ (text_of id ++ 10 ∷ [])))) }
-    ensures never_falls { W.faults sink.old ≤ W.faults sink.new }
+fn print_head<W: Sink>(sink: &mut W, sheet: &mut Sheet, id: Id)
+    ensures { Prints W.written W.faults sink.old sink.new sheet.old sheet.new (codes "block " ++ (text_of id ++ 10 ∷ [])) }
 {
-    put(sink, page, b"block ")?;
-    put_id(sink, page, id)?;
-    put(sink, page, b"\n")
+    print(sink, sheet, b"block ");
+    print_id(sink, sheet, id);
+    print(sink, sheet, b"\n");
 }
 
 // The line with an id, and cells.
-fn put_leaf<W: Sink>(sink: &mut W, page: &mut Page, id: Id, cells: &Cells) -> Result<(), Failed>
-    ensures puts { OnOk result (Puts (W.written sink.old) (W.written sink.new) page.old page.new (leaf_text (id, cells.now))) }
-    ensures steady { OnOk result (W.faults sink.new ≡ W.faults sink.old) }
-
-    ensures rose { OnErr result (Rose (W.faults sink.old) (W.faults sink.new)) }
-    ensures prefix { OnErr result (AppendsPrefix (W.written sink.old) (W.written sink.new) (page.old ++ (leaf_text (id, cells.now)))) }
-    ensures never_falls { W.faults sink.old ≤ W.faults sink.new }
+fn print_leaf<W: Sink>(sink: &mut W, sheet: &mut Sheet, id: Id, cells: &Cells)
+    ensures { Prints W.written W.faults sink.old sink.new sheet.old sheet.new (leaf_text (id, cells.now)) }
 {
-    put_head(sink, page, id)?;
-    put_grid(sink, page, cells)
+    print_head(sink, sheet, id);
+    print_grid(sink, sheet, cells);
 }
 
 // The same of whatever has a leaf.
-fn put_printed<W: Sink, L: Printed>(sink: &mut W, page: &mut Page, leaf: &L) -> Result<(), Failed>
-    ensures puts { OnOk result (Puts (W.written sink.old) (W.written sink.new) page.old page.new (leaf_text (L.leaf leaf.now))) }
-    ensures steady { OnOk result (W.faults sink.new ≡ W.faults sink.old) }
-
-    ensures rose { OnErr result (Rose (W.faults sink.old) (W.faults sink.new)) }
-    ensures prefix { OnErr result (AppendsPrefix (W.written sink.old) (W.written sink.new) (page.old ++ (leaf_text (L.leaf leaf.now)))) }
-    ensures never_falls { W.faults sink.old ≤ W.faults sink.new }
+fn print_printed<W: Sink, L: Printed>(sink: &mut W, sheet: &mut Sheet, leaf: &L)
+    ensures { Prints W.written W.faults sink.old sink.new sheet.old sheet.new (leaf_text (L.leaf leaf.now)) }
 {
-    put_leaf(sink, page, leaf.id(), leaf.cells())
+    print_leaf(sink, sheet, leaf.id(), leaf.cells());
 }
 
 // Every leaf in its order.
-fn put_leaves<W: Sink, L: Printed>(
-    sink: &mut W,
-    page: &mut Page,
-    leaves: &[L],
-) -> Result<(), Failed>
-    ensures puts { OnOk result (Puts (W.written sink.old) (W.written sink.new) page.old page.new (flat_map leaf_text (map L.leaf leaves.now))) }
-    ensures steady { OnOk result (W.faults sink.new ≡ W.faults sink.old) }
-
-    ensures rose { OnErr result (Rose (W.faults sink.old) (W.faults sink.new)) }
-    ensures prefix { OnErr result (AppendsPrefix (W.written sink.old) (W.written sink.new) (page.old ++ (flat_map leaf_text (map L.leaf leaves.now)))) }
-    ensures never_falls { W.faults sink.old ≤ W.faults sink.new }
+fn print_leaves<W: Sink, L: Printed>(sink: &mut W, sheet: &mut Sheet, leaves: &[L])
+    ensures { Prints W.written W.faults sink.old sink.new sheet.old sheet.new (flat_map leaf_text (map L.leaf leaves.now)) }
 {
     for leaf in leaves {
-        put_printed(sink, page, leaf)?;
+        print_printed(sink, sheet, leaf);
     }
-    Ok(())
 }
 
 // Every leaf in its order, and the last line.
-fn put_map<W: Sink, L: Printed>(sink: &mut W, page: &mut Page, leaves: &[L]) -> Result<(), Failed>
-    ensures puts { OnOk result (Puts (W.written sink.old) (W.written sink.new) page.old page.new (map_text (map L.leaf leaves.now))) }
-    ensures steady { OnOk result (W.faults sink.new ≡ W.faults sink.old) }
-
-    ensures rose { OnErr result (Rose (W.faults sink.old) (W.faults sink.new)) }
-    ensures prefix { OnErr result (AppendsPrefix (W.written sink.old) (W.written sink.new) (page.old ++ (map_text (map L.leaf leaves.now)))) }
-    ensures never_falls { W.faults sink.old ≤ W.faults sink.new }
+fn print_map<W: Sink, L: Printed>(sink: &mut W, sheet: &mut Sheet, leaves: &[L])
+    ensures { Prints W.written W.faults sink.old sink.new sheet.old sheet.new (map_text (map L.leaf leaves.now)) }
 {
-    put_leaves(sink, page, leaves)?;
-    put(sink, page, b"end\n")
-}
-
-// A leaf, through a page where nothing waits.
-fn write_leaf_through<W: Sink>(
-    sink: &mut W,
-    page: &mut Page,
-    id: Id,
-    cells: &Cells,
-) -> Result<(), Failed>
-    requires { page.old ≡ [] }
-    ensures all { OnOk result (W.written sink.new ≡ appended (W.written sink.old) (leaf_text (id, cells.now))) }
-    ensures steady { OnOk result (W.faults sink.new ≡ W.faults sink.old) }
-
-    ensures rose { OnErr result (Rose (W.faults sink.old) (W.faults sink.new)) }
-    ensures prefix { OnErr result (AppendsPrefix (W.written sink.old) (W.written sink.new) (leaf_text (id, cells.now))) }
-    ensures never_falls { W.faults sink.old ≤ W.faults sink.new }
-{
-    put_leaf(sink, page, id, cells)?;
-    flush(sink, page)
-}
-
-// A map, through a page where nothing waits.
-fn write_map_through<W: Sink, L: Printed>(
-    sink: &mut W,
-    page: &mut Page,
-    leaves: &[L],
-) -> Result<(), Failed>
-    requires { page.old ≡ [] }
-    ensures all { OnOk result (W.written sink.new ≡ appended (W.written sink.old) (map_text (map L.leaf leaves.now))) }
-    ensures steady { OnOk result (W.faults sink.new ≡ W.faults sink.old) }
-
-    ensures rose { OnErr result (Rose (W.faults sink.old) (W.faults sink.new)) }
-    ensures prefix { OnErr result (AppendsPrefix (W.written sink.old) (W.written sink.new) (map_text (map L.leaf leaves.now))) }
-    ensures never_falls { W.faults sink.old ≤ W.faults sink.new }
-{
-    put_map(sink, page, leaves)?;
-    flush(sink, page)
+    print_leaves(sink, sheet, leaves);
+    print(sink, sheet, b"end\n");
 }
 
 /// Writes a leaf: the line with its id, and a line for each row of its cells along x. No byte of it waits afterwards. Where
@@ -233,7 +135,9 @@ pub fn write_leaf<W: Sink>(sink: &mut W, id: Id, cells: &Cells) -> Result<(), Fa
     ensures prefix { OnErr result (AppendsPrefix (W.written sink.old) (W.written sink.new) (leaf_text (id, cells.now))) }
     ensures never_falls { W.faults sink.old ≤ W.faults sink.new }
 {
-    write_leaf_through(sink, &mut Page::new(), id, cells)
+    let mut sheet = Sheet::new();
+    print_leaf(sink, &mut sheet, id, cells);
+    finish(sink, &mut sheet)
 }
 
 /// Writes the line that follows the last leaf of a map.
@@ -258,7 +162,9 @@ pub fn write_map<W: Sink, L: Printed>(sink: &mut W, leaves: &[L]) -> Result<(), 
     ensures prefix { OnErr result (AppendsPrefix (W.written sink.old) (W.written sink.new) (map_text (map L.leaf leaves.now))) }
     ensures never_falls { W.faults sink.old ≤ W.faults sink.new }
 {
-    write_map_through(sink, &mut Page::new(), leaves)
+    let mut sheet = Sheet::new();
+    print_map(sink, &mut sheet, leaves);
+    finish(sink, &mut sheet)
 }
 
 #[cfg(test)]

@@ -1,0 +1,7 @@
+use Rattle.bf_case.specs.MapText.{map_text}
+use Rattle.bf_edge.proofs.SheetLemmas.{prints_then}
+use Rattle.bf_plain.proofs.writer.print_map.Goals as goal
+
+pub returns : goal.returns
+unfolding map_text
+returns g c = prints_then c.print_leaves.ensures c.print.ensures
