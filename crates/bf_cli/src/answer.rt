@@ -4,7 +4,7 @@ ghost use Rattle.bf_case.specs.MapText.{map_text};
 ghost use Rattle.bf_cli.specs.Answers.{status_line, Tells};
 ghost use Rattle.bf_cli.specs.Told.{IsMeantBy};
 ghost use Rattle.bf_edge.specs.Faults.{Rose};
-ghost use Rattle.bf_edge.specs.Page.{Puts};
+ghost use Rattle.bf_edge.specs.Sheet.{Prints};
 ghost use Rattle.bf_edge.specs.Sink.{appended, AppendsPrefix};
 
 use crate::leaves::block_leaves;
@@ -12,7 +12,7 @@ use crate::status::{Ended, Status};
 use bf_case::Map;
 use bf_core::Outcome;
 use bf_driven::laws::{a_finished_run_has_the_leaves, leaves_in_order_are_the_map};
-use bf_edge::{Failed, Page, Sink, flush, put, put_number, write_all};
+use bf_edge::{Failed, Sheet, Sink, finish, print, print_number};
 use bf_forest::Forest;
 use bf_plain::{Printed, write_map};
 use bf_world::World;
@@ -26,47 +26,34 @@ pub(crate) enum Answer {
     Line(Status),
 }
 
-/// Lets a text wait, and then a number.
-fn put_numbered<W: Sink>(
-    sink: &mut W,
-    page: &mut Page,
-    text: &[u8],
-    number: u32,
-) -> Result<(), Failed>
-    ensures puts { OnOk result (Puts (W.written sink.old) (W.written sink.new) page.old page.new (text.now ++ decimal number)) }
-    ensures steady { OnOk result (W.faults sink.new ≡ W.faults sink.old) }
-    ensures rose { OnErr result (Rose (W.faults sink.old) (W.faults sink.new)) }
-    ensures prefix { OnErr result (AppendsPrefix (W.written sink.old) (W.written sink.new) (page.old ++ (text.now ++ decimal number))) }
-    ensures never_falls { W.faults sink.old ≤ W.faults sink.new }
+/// Prints a text, and then a number.
+fn print_numbered<W: Sink>(sink: &mut W, sheet: &mut Sheet, text: &[u8], number: u32)
+    ensures { Prints W.written W.faults sink.old sink.new sheet.old sheet.new (text.now ++ decimal number) }
 {
-    put(sink, page, text)?;
-    put_number(sink, page, number)
+    print(sink, sheet, text);
+    print_number(sink, sheet, number);
 }
 
-/// Lets the line of a refusal wait.
-fn put_refusal<W: Sink>(sink: &mut W, page: &mut Page, line: u32, code: u32) -> Result<(), Failed>
-    ensures puts { OnOk result (Puts (W.written sink.old) (W.written sink.new) page.old page.new (status_line (Status.Refused line code))) }
-    ensures steady { OnOk result (W.faults sink.new ≡ W.faults sink.old) }
-    ensures rose { OnErr result (Rose (W.faults sink.old) (W.faults sink.new)) }
-    ensures prefix { OnErr result (AppendsPrefix (W.written sink.old) (W.written sink.new) (page.old ++ status_line (Status.Refused line code))) }
-    ensures never_falls { W.faults sink.old ≤ W.faults sink.new }
+/// Prints the line of a refusal.
+fn print_refusal<W: Sink>(sink: &mut W, sheet: &mut Sheet, line: u32, code: u32)
+    ensures { Prints W.written W.faults sink.old sink.new sheet.old sheet.new (status_line (Status.Refused line code)) }
 {
-    put_numbered(sink, page, b"refused line ", line)?;
-    put_numbered(sink, page, b" code ", code)?;
-    put(sink, page, b"\n")
+    print_numbered(sink, sheet, b"refused line ", line);
+    print_numbered(sink, sheet, b" code ", code);
+    print(sink, sheet, b"\n");
 }
 
-/// Writes the line of a refusal through a page where nothing waits, so that the sink is called once for it.
-fn write_refusal<W: Sink>(sink: &mut W, page: &mut Page, line: u32, code: u32) -> Result<(), Failed>
-    requires { page.old ≡ [] }
-    ensures all { OnOk result (W.written sink.new ≡ appended (W.written sink.old) (status_line (Status.Refused line code))) }
-    ensures steady { OnOk result (W.faults sink.new ≡ W.faults sink.old) }
-    ensures rose { OnErr result (Rose (W.faults sink.old) (W.faults sink.new)) }
-    ensures prefix { OnErr result (AppendsPrefix (W.written sink.old) (W.written sink.new) (status_line (Status.Refused line code))) }
-    ensures never_falls { W.faults sink.old ≤ W.faults sink.new }
+/// Prints the line that tells a status.
+fn print_status<W: Sink>(sink: &mut W, sheet: &mut Sheet, status: Status)
+    ensures { Prints W.written W.faults sink.old sink.new sheet.old sheet.new (status_line status) }
 {
-    put_refusal(sink, page, line, code)?;
-    flush(sink, page)
+    match status {
+        Status::Ok | Status::WriteFault => print(sink, sheet, b""),
+        Status::Usage => print(sink, sheet, b"usage\n"),
+        Status::Refused { line, code } => print_refusal(sink, sheet, line, code),
+        Status::Memory => print(sink, sheet, b"memory\n"),
+        Status::ReadFault => print(sink, sheet, b"read fault\n"),
+    }
 }
 
 /// Writes the line that tells a status.
@@ -77,13 +64,9 @@ fn write_status<W: Sink>(sink: &mut W, status: Status) -> Result<(), Failed>
     ensures prefix { OnErr result (AppendsPrefix (W.written sink.old) (W.written sink.new) (status_line status)) }
     ensures never_falls { W.faults sink.old ≤ W.faults sink.new }
 {
-    match status {
-        Status::Ok | Status::WriteFault => write_all(sink, b""),
-        Status::Usage => write_all(sink, b"usage\n"),
-        Status::Refused { line, code } => write_refusal(sink, &mut Page::new(), line, code),
-        Status::Memory => write_all(sink, b"memory\n"),
-        Status::ReadFault => write_all(sink, b"read fault\n"),
-    }
+    let mut sheet = Sheet::new();
+    print_status(sink, &mut sheet, status);
+    finish(sink, &mut sheet)
 }
 
 /// The status of a call that has told what it means.
