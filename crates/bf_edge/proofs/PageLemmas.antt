@@ -3,7 +3,6 @@ use Rattle.std.proofs.Common.{◌≡◌, ℕ, ◌+◌, ◌<◌, ◌≤◌, List,
 use Rattle.std.proofs.lemmas.List.{append-nil, take-append-le, drop-append-le, take_more, take-append-drop, take_all, drop_all, take_at, drop_at}
 use Rattle.std.proofs.Math.Seq.{take-append-add}
 use Rattle.std.proofs.lemmas.List.Concat.{flat_map-append}
-use Rattle.std.specs.Prelude.{Result, Ok, Err, OnErr}
 use Rattle.bf_edge.specs.Sink.{appended, AppendsPrefix}
 use Rattle.bf_edge.proofs.Appending.{appended-nil, appended-append}
 use Rattle.bf_edge.specs.Page.{Puts}
@@ -27,11 +26,6 @@ written_twice old now new text more j k within first second =
     second ∙ (ap (λ w. appended w (take k (drop j text ++ more))) first
     ∙ (appended-append old (take j text) (take k (drop j text ++ more))
     ∙ ap (appended old) (sym (take-add_append text more j k within))))
-
--- what holds at all holds on an error
-pub on_err : {T E P : Type 0} (r : Result T E) → P → OnErr r P
-on_err (Ok x) p = tt
-on_err (Err e) p = p
 
 -- nothing was put
 pub puts_none : (written : Option (List ℕ)) (waits : List ℕ) → Puts written written waits waits []
@@ -125,38 +119,9 @@ all_written {old} {now} {new} {waited} {waits} {bytes} empty p more =
     ∙ (appended-append old (take p.count (waited ++ bytes)) (drop p.count (waited ++ bytes))
     ∙ ap (appended old) (take-append-drop p.count (waited ++ bytes) ∙ ap (λ l. l ++ bytes) empty))))
 
--- one text, and then a failure as what waits is written
-pub breaks_writing : {old now new : Option (List ℕ)} {waited waits bytes : List ℕ}
-    → waited ≡ [] → Puts old now waited waits bytes → AppendsPrefix now new waits → AppendsPrefix old new bytes
-breaks_writing {old} {now} {new} {waited} {waits} {bytes} empty p q =
-    let after : AppendsPrefix now new (waits ++ []) = subst (AppendsPrefix now new) (sym (append-nil waits)) q in
-    subst (AppendsPrefix old new) (ap (λ l. l ++ (bytes ++ [])) empty ∙ append-nil bytes) (breaks_after [] p after)
-
 -- one more text of many
 pub flat_map-take_more : {X : Type 0} (f : X → List ℕ) (xs : List X) (i : ℕ) (d x : X) → i < length xs → x ≡ get_or xs i d
     → flat_map f (take (i + 1) xs) ≡ flat_map f (take i xs) ++ f x
 flat_map-take_more f xs i d x below is =
     ap (flat_map f) (take_more xs i d below ∙ ap (λ y. take i xs ++ y ∷ []) (sym is))
     ∙ (flat_map-append f (take i xs) (x ∷ []) ∙ ap (λ l. flat_map f (take i xs) ++ l) (append-nil (f x)))
-
-pub puts_item : {X : Type 0} (f : X → List ℕ) (xs : List X) (i : ℕ) (d x : X) {old now new : Option (List ℕ)} {waited between waits : List ℕ}
-    → i < length xs → x ≡ get_or xs i d → Puts old now waited between (flat_map f (take i xs)) → Puts now new between waits (f x)
-    → Puts old new waited waits (flat_map f (take (i + 1) xs))
-puts_item f xs i d x {old} {now} {new} {waited} {between} {waits} below is p q =
-    subst (Puts old new waited waits) (sym (flat_map-take_more f xs i d x below is)) (puts_more p q)
-
--- all of many texts
-pub puts_items : {X : Type 0} (f : X → List ℕ) (xs : List X) (i : ℕ) {old new : Option (List ℕ)} {waited waits : List ℕ}
-    → length xs ≤ i → Puts old new waited waits (flat_map f (take i xs)) → Puts old new waited waits (flat_map f xs)
-puts_items f xs i {old} {new} {waited} {waits} all p =
-    subst (λ l. Puts old new waited waits (flat_map f l)) (take_all i xs all) p
-
--- a failure within one of many texts
-pub breaks_item : {X : Type 0} (f : X → List ℕ) (xs : List X) (i : ℕ) (d x : X) {old now new : Option (List ℕ)} {waited between : List ℕ}
-    → i < length xs → x ≡ get_or xs i d → Puts old now waited between (flat_map f (take i xs)) → AppendsPrefix now new (between ++ f x)
-    → AppendsPrefix old new (waited ++ flat_map f xs)
-breaks_item f xs i d x {old} {now} {new} {waited} {between} below is p q =
-    let whole : (flat_map f (take i xs) ++ f x) ++ flat_map f (drop (i + 1) xs) ≡ flat_map f xs =
-    ap (λ l. l ++ flat_map f (drop (i + 1) xs)) (sym (flat_map-take_more f xs i d x below is))
-    ∙ (sym (flat_map-append f (take (i + 1) xs) (drop (i + 1) xs)) ∙ ap (flat_map f) (take-append-drop (i + 1) xs)) in
-    subst (λ (l : List ℕ). AppendsPrefix old new (waited ++ l)) whole (breaks_early waited _ (flat_map f (drop (i + 1) xs)) (breaks_after (f x) p q))

@@ -20,7 +20,7 @@ mod tests;
 pub use counts::Failed;
 pub use mem_sink::MemSink;
 pub use mem_source::MemSource;
-pub use page::{PAGE_SIZE, Page, flush, put, put_number, put_numbers};
+pub use page::PAGE_SIZE;
 pub use sheet::{Sheet, finish, print, print_number, print_numbers};
 pub use sink::{Sink, write_all};
 pub use source::{ReadEnd, Source, read_up_to};

@@ -1,12 +1,11 @@
 //! A page of bytes that wait to be written, so that a sink is called once for many small texts.
-ghost use Rattle.std.specs.Prelude.{◌≡◌, ◌↔◌, [], ◌∷◌, ◌+◌, ◌≤◌, ◌++◌, length, flat_map, decimal, OnOk, OnErr, IsTrue};
+ghost use Rattle.std.specs.Prelude.{◌≡◌, ◌↔◌, [], ◌+◌, ◌≤◌, ◌++◌, length, OnOk, OnErr, IsTrue};
 ghost use Rattle.bf_edge.specs.Faults.{Rose};
 ghost use Rattle.bf_edge.specs.Page.{Puts};
 ghost use Rattle.bf_edge.specs.Sink.{appended, AppendsPrefix};
 
 use crate::counts::Failed;
 use crate::sink::{Sink, write_all};
-use itoa::Buffer;
 use std::marker::Model;
 
 /// How many bytes a page holds.
@@ -14,7 +13,7 @@ pub const PAGE_SIZE: usize = 4096;
 
 /// The bytes that wait, at most `PAGE_SIZE` of them. They stand in the page itself, so making one takes no memory.
 #[derive(Drop)]
-pub struct Page {
+pub(crate) struct Page {
     bytes: [u8; PAGE_SIZE],
     count: usize,
 }
@@ -32,7 +31,7 @@ impl Model for Page {
 
 impl Page {
     /// A page where nothing waits.
-    pub fn new() -> Page
+    pub(crate) fn new() -> Page
         ensures { result ≡ [] }
     {
         Page {
@@ -71,7 +70,7 @@ impl Page {
 }
 
 /// Writes all that waits. After a failure the page is not to be written again.
-pub fn flush<W: Sink>(sink: &mut W, page: &mut Page) -> Result<(), Failed>
+pub(crate) fn flush<W: Sink>(sink: &mut W, page: &mut Page) -> Result<(), Failed>
     ensures all { OnOk result (W.written sink.new ≡ appended (W.written sink.old) page.old) }
     ensures empty { OnOk result (page.new ≡ []) }
     ensures steady { OnOk result (W.faults sink.new ≡ W.faults sink.old) }
@@ -86,7 +85,7 @@ pub fn flush<W: Sink>(sink: &mut W, page: &mut Page) -> Result<(), Failed>
 }
 
 /// Lets the bytes wait behind those that do, and writes the page where they find no room.
-pub fn put<W: Sink>(sink: &mut W, page: &mut Page, bytes: &[u8]) -> Result<(), Failed>
+pub(crate) fn put<W: Sink>(sink: &mut W, page: &mut Page, bytes: &[u8]) -> Result<(), Failed>
     ensures puts { OnOk result (Puts (W.written sink.old) (W.written sink.new) page.old page.new bytes.now) }
     ensures steady { OnOk result (W.faults sink.new ≡ W.faults sink.old) }
 
@@ -116,44 +115,4 @@ fn put_after_flush<W: Sink>(sink: &mut W, page: &mut Page, bytes: &[u8]) -> Resu
         return Ok(());
     }
     write_all(sink, bytes)
-}
-
-/// The number in decimal.
-pub fn put_number<W: Sink>(sink: &mut W, page: &mut Page, number: u32) -> Result<(), Failed>
-    ensures puts { OnOk result (Puts (W.written sink.old) (W.written sink.new) page.old page.new (decimal number)) }
-    ensures steady { OnOk result (W.faults sink.new ≡ W.faults sink.old) }
-
-    ensures rose { OnErr result (Rose (W.faults sink.old) (W.faults sink.new)) }
-    ensures prefix { OnErr result (AppendsPrefix (W.written sink.old) (W.written sink.new) (page.old ++ decimal number)) }
-    ensures never_falls { W.faults sink.old ≤ W.faults sink.new }
-{
-    put(sink, page, Buffer::new().format(number).as_bytes())
-}
-
-// A blank and the number.
-fn put_next<W: Sink>(sink: &mut W, page: &mut Page, number: u32) -> Result<(), Failed>
-    ensures puts { OnOk result (Puts (W.written sink.old) (W.written sink.new) page.old page.new (32 ∷ decimal number)) }
-    ensures steady { OnOk result (W.faults sink.new ≡ W.faults sink.old) }
-
-    ensures rose { OnErr result (Rose (W.faults sink.old) (W.faults sink.new)) }
-    ensures prefix { OnErr result (AppendsPrefix (W.written sink.old) (W.written sink.new) (page.old ++ (32 ∷ decimal number))) }
-    ensures never_falls { W.faults sink.old ≤ W.faults sink.new }
-{
-    put(sink, page, b" ")?;
-    put_number(sink, page, number)
-}
-
-/// Each number in decimal, after a blank.
-pub fn put_numbers<W: Sink>(sink: &mut W, page: &mut Page, numbers: &[u32]) -> Result<(), Failed>
-    ensures puts { OnOk result (Puts (W.written sink.old) (W.written sink.new) page.old page.new (flat_map (λ number. 32 ∷ decimal number) numbers.now)) }
-    ensures steady { OnOk result (W.faults sink.new ≡ W.faults sink.old) }
-
-    ensures rose { OnErr result (Rose (W.faults sink.old) (W.faults sink.new)) }
-    ensures prefix { OnErr result (AppendsPrefix (W.written sink.old) (W.written sink.new) (page.old ++ (flat_map (λ number. 32 ∷ decimal number) numbers.now))) }
-    ensures never_falls { W.faults sink.old ≤ W.faults sink.new }
-{
-    for number in numbers {
-        put_next(sink, page, *number)?;
-    }
-    Ok(())
 }
