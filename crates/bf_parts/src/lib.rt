@@ -13,7 +13,7 @@ mod restore;
 mod side;
 
 pub use bf_items::Items;
-pub use merging::merge;
+pub use merging::{append, merge};
 pub use restore::{Linked, heir, regained};
 pub use side::{Side, gives, source_of};
 

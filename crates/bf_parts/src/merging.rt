@@ -1,4 +1,4 @@
-//! Two lists of items in rising order made one.
+//! Two lists of items made one: one behind the other, or in their common order.
 ghost use Rattle.std.specs.Prelude.{◌≡◌, ◌++◌, take, drop, IfOk, OnOk};
 ghost use Rattle.bf_parts.specs.Merges.{merged, passed};
 
@@ -6,6 +6,16 @@ use crate::{Items, Linked};
 use bf_program::Memory;
 use std::alloc::Global;
 use std::collections::VecDeque;
+
+/// Moves items to the end of others.
+pub fn append<T: Drop>(items: &mut Items<T>, more: Items<T>) -> Result<(), Memory>
+    ensures { OnOk result (items.new ≡ items.old ++ more) }
+{
+    let mut all = items.moved().into_vec();
+    all.append(&mut more.into_vec())?;
+    *items = Items::of(all);
+    Ok(())
+}
 
 // Moves those of others that don't come after an item to the end of a list.
 fn pass<T: Linked + Drop>(
