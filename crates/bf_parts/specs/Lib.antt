@@ -12,6 +12,7 @@ pub mod MoveLaws
 pub mod ChangeLaws
 pub mod RestoreLaws
 pub mod StockLaws
+pub mod LossLaws
 pub mod CoverLaws
 pub mod SnapshotLaws
 pub mod ViewLaws

@@ -33,6 +33,18 @@ restored_seen {I = I} kind shift epoch is_made leaves later lives owner home_of 
     ap (λ (items : List I). record { rank = rank; items = items; active = side_at epoch.time epoch.homes shift leaves.agreed home_of rank; spare = bare })
     (regained_is kind leaves.agreed are epoch.homes (filter lives epoch.members) shift home_of rank up is_home is_live housed epoch.time)
 
+-- and a second restore goes back to the same side
+pub restored_again : {K I : Type 0} (kind : Kind I) (shift : ℕ) (epoch : Epoch) (is_made : Bool) (leaves : Trio K I) (later : Leaves K I) (lives then_lives : ℕ → Bool) (owner home_of : K → ℕ) (rank : ℕ)
+    → AreLeaves kind leaves.agreed → IsStrictlyIncreasing epoch.homes → is_member epoch.homes rank ≡ true → is_member (filter then_lives (filter lives epoch.members)) rank ≡ true
+    → AreAmong epoch.homes leaves.agreed home_of
+    → restored_view kind shift (restored_view kind shift (view_at shift epoch is_made leaves owner home_of rank).active rank (filter lives epoch.members)).active rank
+    (filter then_lives (filter lives epoch.members))
+    ≡ view_at shift (restored_epoch then_lives (restored_epoch lives epoch)) false (begun_trio leaves.agreed later)
+    (λ key. heir_of epoch.homes (filter then_lives (filter lives epoch.members)) shift (home_of key)) home_of rank
+restored_again kind shift epoch is_made leaves later lives then_lives owner home_of rank are up is_home is_live housed =
+    restored_seen kind shift (restored_epoch lives epoch) false (begun_trio leaves.agreed later) later then_lives (λ key. heir_of epoch.homes (filter lives epoch.members) shift (home_of key)) home_of
+    rank are up is_home is_live housed
+
 -- the homes that told locals have stored are those of an agreed leaf
 pub stored_seen : {L K I : Type 0} (look : L → View I) (shift : ℕ) (epoch : Epoch) (is_made : Bool) (leaves : Trio K I) (owner home_of : K → ℕ) (at : ℕ → L)
     → ((rank : ℕ) → is_member epoch.members rank ≡ true → look (at rank) ≡ view_at shift epoch is_made leaves owner home_of rank)

@@ -1,9 +1,10 @@
 //! Laws of items that ranks keep in parts, each the contract of a call that does nothing.
 //!
 //! `K` is a key, `I` an item and `L` a program's local.
-ghost use Rattle.std.specs.Prelude.{◌≡◌, ◌≢◌, ℕ, ◌==◌, ◌||◌, ◌&&◌, Bool, IsTrue, true, false, AllPairs, List, ◌∷◌, map, filter};
+ghost use Rattle.std.specs.Prelude.{◌≡◌, ◌≢◌, ℕ, ◌==◌, ◌||◌, ◌&&◌, Bool, IsTrue, true, false, AllPairs, List, ◌∷◌, None, map, filter};
 ghost use Rattle.std.specs.List.{flat_map, count_by, sum_by, fold};
 ghost use Rattle.std.specs.List.Sorted.{IsStrictlyIncreasing};
+ghost use Rattle.bf_buddy.specs.Losses.{first_lost_of};
 ghost use Rattle.bf_buddy.specs.Members.{is_member};
 ghost use Rattle.bf_program.specs.declared.epoch.Epoch.{Epoch};
 ghost use Rattle.bf_program.specs.Epochs.{epoch_after_commit};
@@ -90,6 +91,15 @@ pub fn a_restore_gives_what_a_rank_goes_on_with<K, I>()
         ≡ sum_by (λ home. count_by test (saved_of (side_at time homes shift leaves home_of rank) rank home)) (filter (is_given (side_at time homes shift leaves home_of rank) rank live) homes) }
 {}
 
+/// Where no filled home is lost, the heir of each leaf's home is live, and each filled home still has a live holder. So the
+/// owners and the holders of a restore that loses nothing are among its members.
+pub fn where_nothing_is_lost_heirs_are_live<K, I>()
+    ensures { (leaves : Leaves K I) (homes live : List ℕ) (shift : ℕ) (home_of : K → ℕ) → IsStrictlyIncreasing homes → IsStrictlyIncreasing live
+        → ((rank : ℕ) → IsTrue (is_member live rank) → IsTrue (is_member homes rank))
+        → first_lost_of homes (filter (is_filled leaves home_of) homes) live shift ≡ None → AreAmong homes leaves home_of
+        → AreAmong live leaves (λ key. heir_of homes live shift (home_of key)) × IsHeld (is_filled leaves home_of) shift homes live }
+{}
+
 /// What is seen of a rank's local after a restore is told in the same way as before: the agreed snapshot and its homes stay,
 /// and the heirs are the owners. So one restore may follow another.
 pub fn a_restore_leads_to_a_told_view<K, I>()
@@ -98,6 +108,18 @@ pub fn a_restore_leads_to_a_told_view<K, I>()
         → AreAmong epoch.homes leaves.agreed home_of
         → restored_view kind shift (view_at shift epoch is_made leaves owner home_of rank).active rank (filter lives epoch.members)
         ≡ view_at shift (restored_epoch lives epoch) false (begun_trio leaves.agreed later) (λ key. heir_of epoch.homes (filter lives epoch.members) shift (home_of key)) home_of rank }
+{}
+
+/// Of two restores in a row the second too goes back to the agreed snapshot of before: its owners are the heirs of the
+/// homes among those who live still, whoever the first restore's heirs were.
+pub fn restores_in_a_row_rest_on_the_agreed_snapshot<K, I>()
+    ensures { (kind : Kind I) (shift : ℕ) (epoch : Epoch) (is_made : Bool) (leaves : Trio K I) (later : Leaves K I) (lives then_lives : ℕ → Bool) (owner home_of : K → ℕ) (rank : ℕ)
+        → AreLeaves kind leaves.agreed → IsStrictlyIncreasing epoch.homes → IsTrue (is_member epoch.homes rank) → IsTrue (is_member (filter then_lives (filter lives epoch.members)) rank)
+        → AreAmong epoch.homes leaves.agreed home_of
+        → restored_view kind shift (restored_view kind shift (view_at shift epoch is_made leaves owner home_of rank).active rank (filter lives epoch.members)).active rank
+        (filter then_lives (filter lives epoch.members))
+        ≡ view_at shift (restored_epoch then_lives (restored_epoch lives epoch)) false (begun_trio leaves.agreed later)
+        (λ key. heir_of epoch.homes (filter then_lives (filter lives epoch.members)) shift (home_of key)) home_of rank }
 {}
 
 /// After a commit the owners are the homes of the agreed snapshot.
