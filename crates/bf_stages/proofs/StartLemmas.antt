@@ -1,16 +1,13 @@
 -- Rounds, openings, commits and restores of a program of stages lead from told vectors to told vectors.
 use Rattle.std.proofs.Common.{◌≡◌, ℕ, ◌+◌, ◌<◌, ◌≤◌, Bool, true, false, List, length, map, filter, arith, refl, sym, ap, ◌∙◌, subst}
-use Rattle.std.specs.Prelude.{◌||◌, not, nat_lt, None, slice_index_or}
+use Rattle.std.specs.Prelude.{not, nat_lt, None}
 use Rattle.std.specs.List.{range_with_len, count_by, flat_map}
 use Rattle.std.proofs.lemmas.Bool.Decides.{nat_tests}
 use Rattle.std.specs.List.Sorted.{IsStrictlyIncreasing}
 use Rattle.std.proofs.lemmas.List.Kept.{IsStrictlyIncreasing-filter}
-use Rattle.bf_buddy.proofs.LossLemmas.{none_lost}
-use Rattle.bf_buddy.proofs.MemberLemmas.{member_filter_from, member_filter_parts, range_rises}
-use Rattle.bf_buddy.specs.Buddy.{buddy_of}
+use Rattle.bf_buddy.proofs.MemberLemmas.{member_filter_parts, range_rises}
 use Rattle.bf_buddy.specs.Losses.{first_lost_of}
 use Rattle.bf_buddy.specs.Members.{is_member}
-use Rattle.bf_program.proofs.RestoreLemmas.{heir_lives}
 use Rattle.bf_program.specs.declared.epoch.Epoch.{Epoch}
 use Rattle.bf_program.specs.Epochs.{first_epoch, epoch_after_commit}
 use Rattle.bf_program.specs.Meanings.{Meanings, Regions}
@@ -22,8 +19,8 @@ use Rattle.bf_rounds.specs.Canonical.{KeepsTelling, KeepsStarts}
 use Rattle.bf_parts.specs.declared.side.Side.{Side}
 use Rattle.bf_parts.specs.CoverLaws.{count_told, parts_counted}
 use Rattle.bf_parts.specs.Leaves.{Kind, Leaves, AreAmong, part_of, is_filled}
+use Rattle.bf_parts.specs.LossLaws.{heirs_held}
 use Rattle.bf_parts.specs.Spreads.{view_at, kept_view, restored_view}
-use Rattle.bf_parts.specs.StockLaws.{owner_filled}
 use Rattle.bf_parts.specs.ViewLaws.{begun_trio, kept_seen, restored_seen, stored_seen}
 use Rattle.bf_parts.specs.Views.{View, IsHeld}
 use Rattle.bf_stages.proofs.ChainLemmas.{head_is, chain_at, beyond}
@@ -49,16 +46,6 @@ module _ {S K I L N M T G : Type 0} (m : Meanings S L M T (Side I)) (st : Stagin
       count_told test (λ local. (st.look local).items) (local_told m st setup epoch round world) (λ rank. count_by test (part_of (st.leaves setup epoch stage) world.owner rank)) epoch.members
       (λ rank is_in. ap (λ (v : View I). count_by test v.items) (sides.seen (view_of m st setup epoch stage world rank) (st.work setup epoch stage world.owner rank)))
       ∙ parts_counted (st.leaves setup epoch stage) world.owner test epoch.members placed.held.members_rise placed.owned
-
-  -- where no part is lost, each filled home or its buddy lives
-  nothing_lost : (epoch : Epoch) (round : ℕ) (world : World K) (lives : ℕ → Bool) → IsPlaced m st setup epoch round world
-      → first_lost_of epoch.homes (m.stored (map (local_told m st setup epoch round world) epoch.members)) (filter lives epoch.members) (m.shift setup) ≡ None
-      → (home : ℕ) → is_member epoch.homes home ≡ true → is_filled (st.at setup epoch.time) world.home home ≡ true
-      → (is_member (filter lives epoch.members) home || is_member (filter lives epoch.members) (buddy_of epoch.homes home (m.shift setup))) ≡ true
-  nothing_lost epoch round world lives placed none home is_home full =
-      (none_lost epoch.homes (m.stored (map (local_told m st setup epoch round world) epoch.members)) (filter lives epoch.members) (m.shift setup)).0 none home is_home
-      (ap (λ hs. is_member hs home) (stored_told epoch round world placed)
-      ∙ member_filter_from (is_filled (st.at setup epoch.time) world.home) epoch.homes home is_home full)
 
 -- rounds
 module _ {S K I L N M T G : Type 0} (m : Meanings S L M T (Side I)) (st : Staging S K I L N M G) (setup : S) (staged : IsStaged m st setup) where
@@ -205,21 +192,15 @@ module _ {S K I L N M T G : Type 0} (m : Meanings S L M T (Side I)) (st : Stagin
   regained_placed epoch round world lives placed none =
       let live : List ℕ = filter lives epoch.members in
       let runs : st.Runs setup (restored_epoch lives epoch) = spans.restore_runs epoch lives placed.runs in
-      let safe = nothing_lost m st kind setup sides epoch round world lives placed none in
-      let owned : AreAmong live (st.at setup epoch.time) (λ key. heir_of epoch.homes live (m.shift setup) (world.home key)) =
-      λ k d within. heir_lives epoch.homes live (m.shift setup) (world.home (slice_index_or (st.at setup epoch.time).keys k d))
-      (safe (world.home (slice_index_or (st.at setup epoch.time).keys k d)) (placed.housed k d within) (owner_filled (st.at setup epoch.time) world.home k d within)) in
+      let regained = heirs_held (st.at setup epoch.time) epoch.homes live (m.shift setup) world.home placed.held.homes_rise (IsStrictlyIncreasing-filter lives epoch.members placed.held.members_rise)
+      (λ rank is_in. placed.held.among rank (member_filter_parts lives epoch.members rank is_in).0)
+      (ap (λ homes. first_lost_of epoch.homes homes live (m.shift setup)) (sym (stored_told m st kind setup sides epoch round world placed)) ∙ none) placed.housed in
       record {
         runs = runs;
-        owned = begun_owned (restored_epoch lives epoch) live (λ key. heir_of epoch.homes live (m.shift setup) (world.home key)) runs owned;
+        owned = begun_owned (restored_epoch lives epoch) live (λ key. heir_of epoch.homes live (m.shift setup) (world.home key)) runs regained.0;
         housed = placed.housed;
-        held = record {
-          homes_rise = placed.held.homes_rise;
-          members_rise = IsStrictlyIncreasing-filter lives epoch.members placed.held.members_rise;
-          among = λ rank is_in. placed.held.among rank (member_filter_parts lives epoch.members rank is_in).0;
-          safe = safe;
-        };
-        also = begun_also (restored_epoch lives epoch) (λ key. heir_of epoch.homes live (m.shift setup) (world.home key)) runs owned;
+        held = regained.1;
+        also = begun_also (restored_epoch lives epoch) (λ key. heir_of epoch.homes live (m.shift setup) (world.home key)) runs regained.0;
       }
 
   regained_local : (epoch : Epoch) (round : ℕ) (world : World K) (lives : ℕ → Bool) (rank : ℕ) → IsPlaced m st setup epoch round world → is_member (filter lives epoch.members) rank ≡ true
