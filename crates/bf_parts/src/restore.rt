@@ -1,5 +1,5 @@
 //! What a rank goes on with after a restore, in one pass over both parts of its side.
-ghost use Rattle.std.specs.Prelude.{◌≡◌, ◌≤◌, ℕ, List, IsTrue, IfOk, OnOk, OnErr, All, map, length, take, drop, ◌++◌};
+ghost use Rattle.std.specs.Prelude.{◌≡◌, ◌≤◌, ℕ, List, IsTrue, IfOk, OnOk, All, map, length, ◌++◌};
 ghost use Rattle.bf_buddy.specs.Members.{is_member};
 ghost use Rattle.bf_program.specs.Restores.{heir_of};
 ghost use Rattle.bf_parts.specs.Leaves.{Kind};
