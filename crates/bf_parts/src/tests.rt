@@ -1,4 +1,4 @@
-//! Who has whose copy among three, a side that is let go, and what a rank goes on with.
+//! Who has whose copy beside a dead one of three, what a rank goes on with, and lists merged.
 ghost use Rattle.std.specs.Prelude.{IsTrue, IfOk, All};
 ghost use Rattle.bf_buddy.specs.Members.{is_member};
 ghost use Rattle.bf_parts.specs.declared.tests.Knot.{Knot};
@@ -8,18 +8,8 @@ use bf_buddy::Members;
 use bf_items::Items;
 use bf_program::Memory;
 use std::alloc::Global;
+use std::process::Abort;
 use std::test::Fail;
-
-#[test]
-fn of_three_the_next_has_the_copy(rt: HostRuntime) -> Result<(), Fail> {
-    let three = Members::all(3);
-    assert!(rt; gives(three, 0, 0, 1));
-    assert!(rt; !gives(three, 0, 0, 2));
-    assert!(rt; gives(three, 1, 0, 2));
-    assert_eq!(rt; source_of(three, 0, 0), 2);
-    assert_eq!(rt; source_of(three, 1, 0), 1);
-    Ok(())
-}
 
 #[test]
 fn without_one_of_three_the_others_have_each_others_copies(rt: HostRuntime) -> Result<(), Fail> {
@@ -28,25 +18,6 @@ fn without_one_of_three_the_others_have_each_others_copies(rt: HostRuntime) -> R
     assert!(rt; !gives(two, 0, 1, 2));
     assert_eq!(rt; source_of(two, 0, 0), 2);
     assert_eq!(rt; source_of(two, 0, 1), 1);
-    Ok(())
-}
-
-#[test]
-fn a_side_is_let_go(rt: HostRuntime) -> Result<(), Fail> {
-    let mut side = Side {
-        time: 7,
-        homes: Members::all(3),
-        source: 2,
-        own: Items::of(vec![in rt.alloc(); 5u32]?),
-        other: Items::of(vec![in rt.alloc(); 6u32, 4]?),
-    };
-    side.clear();
-    let bare: Side<u32> = Side::bare(rt.alloc());
-    assert_eq!(rt; side.time, bare.time);
-    assert_eq!(rt; side.homes.count(), bare.homes.count());
-    assert_eq!(rt; side.source, bare.source);
-    assert_eq!(rt; side.own.len(), bare.own.len());
-    assert_eq!(rt; side.other.len(), 0);
     Ok(())
 }
 
@@ -84,8 +55,13 @@ impl Linked for Knot {
     }
 }
 
-// Knots in this order, without those that no home owns.
-fn knots(alloc: Global, homes: Members, ties: &[(u32, u32)]) -> Result<Items<Knot>, Memory>
+// Knots in this order, each of which a home has to own.
+fn knots(
+    rt: &impl Abort,
+    alloc: Global,
+    homes: Members,
+    ties: &[(u32, u32)],
+) -> Result<Items<Knot>, Memory>
     ensures { IfOk result (λ items. All (λ (knot : Knot). IsTrue (is_member homes knot.owner)) items) }
 {
     let mut all = Vec::new(alloc);
@@ -97,6 +73,7 @@ fn knots(alloc: Global, homes: Members, ties: &[(u32, u32)]) -> Result<Items<Kno
             })?;
         }
     }
+    assert_eq!(rt; all.len(), ties.len());
     Ok(Items::of(all))
 }
 
@@ -110,21 +87,21 @@ fn ties_of(alloc: Global, knots: &Items<Knot>) -> Result<Vec<(u32, u32)>, Memory
 }
 
 // What rank 1 of three goes on with, whose predecessor is rank 0.
-fn gone_on(alloc: Global, live: Members) -> Result<Vec<(u32, u32)>, Memory> {
+fn gone_on(rt: &impl Abort, alloc: Global, live: Members) -> Result<Vec<(u32, u32)>, Memory> {
     let homes = Members::all(3);
     let side = Side {
         time: 7,
         homes,
         source: 0,
-        own: knots(alloc, homes, &[(2, 0), (5, 2)])?,
-        other: knots(alloc, homes, &[(1, 1), (4, 0), (7, 2)])?,
+        own: knots(rt, alloc, homes, &[(2, 0), (5, 2)])?,
+        other: knots(rt, alloc, homes, &[(1, 1), (4, 0), (7, 2)])?,
     };
     ties_of(alloc, &regained(alloc, &side, live, 0)?)
 }
 
 #[test]
 fn beside_a_dead_predecessor_both_parts_are_merged(rt: HostRuntime) -> Result<(), Fail> {
-    let all = gone_on(rt.alloc(), Members::all(3).without(0))?;
+    let all = gone_on(&rt, rt.alloc(), Members::all(3).without(0))?;
     assert_eq!(rt;
         all.as_slice(),
         [(1, 1), (2, 1), (4, 1), (5, 2), (7, 2)].as_slice()
@@ -134,7 +111,7 @@ fn beside_a_dead_predecessor_both_parts_are_merged(rt: HostRuntime) -> Result<()
 
 #[test]
 fn beside_a_live_predecessor_a_rank_keeps_its_own(rt: HostRuntime) -> Result<(), Fail> {
-    let all = gone_on(rt.alloc(), Members::all(3).without(2))?;
+    let all = gone_on(&rt, rt.alloc(), Members::all(3).without(2))?;
     assert_eq!(rt; all.as_slice(), [(2, 0), (5, 0)].as_slice());
     Ok(())
 }
@@ -150,8 +127,8 @@ fn with_another_shift_another_goes_on(rt: HostRuntime) {
 #[test]
 fn two_lists_are_merged_in_their_order(rt: HostRuntime) -> Result<(), Fail> {
     let homes = Members::all(3);
-    let own = knots(rt.alloc(), homes, &[(1, 0), (6, 0)])?;
-    let other = knots(rt.alloc(), homes, &[(2, 1), (4, 1), (9, 1)])?;
+    let own = knots(&rt, rt.alloc(), homes, &[(1, 0), (6, 0)])?;
+    let other = knots(&rt, rt.alloc(), homes, &[(2, 1), (4, 1), (9, 1)])?;
     let both = ties_of(rt.alloc(), &merge(rt.alloc(), own, other)?)?;
     assert_eq!(rt;
         both.as_slice(),

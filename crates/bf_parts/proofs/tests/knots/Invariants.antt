@@ -4,4 +4,4 @@ use Rattle.bf_parts.specs.declared.tests.Knot.{Knot}
 use Rattle.bf_parts.proofs.tests.knots.Given as goal
 
 abbrev pub invariant-loop-number : goal.invariant-loop-number
-invariant-loop-number l = All (λ (knot : Knot). IsTrue (is_member l.homes knot.owner)) l.all.items
+invariant-loop-number g l = All (λ (knot : Knot). IsTrue (is_member l.homes knot.owner)) l.all.items
