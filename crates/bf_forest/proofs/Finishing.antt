@@ -1,18 +1,20 @@
--- A rank that finishes a step's round is ready to step its blocks.
+-- What a rank knows of its local at each call of a round; one that finishes a step's round is ready to step its blocks.
 use Rattle.std.proofs.Common.{◌≡◌, ℕ, ◌+◌, ◌<◌, ◌≤◌, List, ◌++◌, ◌⊎◌, inl, inr, flat_map, All, arith, refl, ap, sym, ◌∙◌, subst}
 use Rattle.std.proofs.lemmas.Bool.{cases_lt, cases_order}
 use Rattle.bf_buddy.specs.Members.{without}
 use Rattle.bf_program.specs.declared.epoch.Epoch.{Epoch}
-use Rattle.bf_program.specs.Points.{IsFinishing}
+use Rattle.bf_program.specs.Points.{IsSending, IsReceiving, IsFinishing}
 use Rattle.bf_id.specs.Id.{BlockId}
 use Rattle.bf_case.specs.declared.case.Case.{Case}
 use Rattle.bf_block.specs.declared.setup.Setup.{Setup}
 use Rattle.bf_block.specs.Setup.{case_of, every_setup_runs}
 use Rattle.bf_parts.specs.Leaves.{AreAmong, part_of}
-use Rattle.bf_rounds.proofs.PointLemmas.{finishing_told}
+use Rattle.bf_rounds.proofs.PointLemmas.{sending_told, receiving_told, finishing_told}
+use Rattle.bf_rounds.specs.Canonical.{KeepsTelling, IsSendingTold, IsHearingTold, IsFinishingTold}
 use Rattle.bf_stages.specs.Stages.{telling_of}
 use Rattle.bf_stages.proofs.StartLemmas.{keeps_telling}
 use Rattle.bf_forest.specs.declared.local.ForestLocal.{ForestLocal}
+use Rattle.bf_forest.specs.declared.message.ForestMessage.{ForestMessage}
 use Rattle.bf_forest.specs.declared.stage.Stage.{Stage}
 use Rattle.bf_forest.specs.declared.stage.Stage.TheVariants.{Step, Snapshot, Over}
 use Rattle.bf_forest.specs.BlockLaws.{known_to, known_are, known_roots}
@@ -26,6 +28,25 @@ use Rattle.bf_forest.specs.StageLaws.{stage_step, stage_snapshot, stage_over}
 use Rattle.bf_forest.specs.Stages.{span, stage_of}
 use Rattle.bf_forest.specs.Staging.{course_in, leaves_in, forest_staging}
 use Rattle.bf_forest.specs.StepLaws.{HasRoots}
+
+keeps : (setup : Setup) → KeepsTelling forest (telling_of forest forest_staging) setup
+keeps setup = keeps_telling forest forest_staging setup (staged setup) pieces (has_stages setup)
+
+pub knows_sending : (setup : Setup) (epoch : Epoch) (round to : ℕ) (local : ForestLocal) → IsSending forest IsGood setup epoch round to local
+    → IsSendingTold forest (telling_of forest forest_staging) setup epoch round to local
+unfolding IsGood
+knows_sending setup epoch round to local at = sending_told forest (telling_of forest forest_staging) setup (keeps setup) (lawful_forest setup).goods epoch round to local at
+
+pub knows_receiving : (setup : Setup) (epoch : Epoch) (round peer : ℕ) (msg : ForestMessage) (local : ForestLocal) → IsReceiving forest IsGood setup epoch round peer msg local
+    → IsHearingTold forest (telling_of forest forest_staging) setup epoch round peer msg local
+unfolding IsGood
+knows_receiving setup epoch round peer msg local at =
+    receiving_told forest (telling_of forest forest_staging) setup (keeps setup) (lawful_forest setup).goods epoch round peer msg local at
+
+pub knows_finishing : (setup : Setup) (epoch : Epoch) (round : ℕ) (local : ForestLocal) → IsFinishing forest IsGood setup epoch round local
+    → IsFinishingTold forest (telling_of forest forest_staging) setup epoch round local
+unfolding IsGood
+knows_finishing setup epoch round local at = finishing_told forest (telling_of forest forest_staging) setup (keeps setup) (lawful_forest setup).goods epoch round local at
 
 -- a rank that owns some blocks of a time and has heard those of all others
 pub part_ready : (setup : Setup) (time : ℕ) (owner : BlockId → ℕ) (members : List ℕ) (rank : ℕ) (local : ForestLocal) → AreAmong members (blocks_at (case_of setup) time) owner
@@ -56,11 +77,10 @@ step_time epoch round time is = elim (cases_lt round (span epoch)) [
 
 pub finishing_ready : (setup : Setup) (epoch : Epoch) (round time : ℕ) (local : ForestLocal) → IsFinishing forest IsGood setup epoch round local
     → stage_of epoch round ≡ Step time → (time : ℕ) × IsReady (case_of setup) time local
-unfolding IsGood stage_of
+unfolding stage_of
 finishing_ready setup epoch round time local at stage =
     let c : Case = case_of setup in
-    let keeps = keeps_telling forest forest_staging setup (staged setup) pieces (has_stages setup) in
-    let told = finishing_told forest (telling_of forest forest_staging) setup keeps (lawful_forest setup).goods epoch round local at in
+    let told = knows_finishing setup epoch round local at in
     let its = step_time epoch round time stage in
     let whole : epoch.time + span epoch ≡ epoch.target = whole_span setup epoch told.fits.runs in
     let ends : epoch.target ≤ c.steps = ends_within setup epoch told.fits.runs in

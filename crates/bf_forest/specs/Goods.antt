@@ -1,8 +1,11 @@
 -- Good vectors of the ranks' locals.
-use Rattle.std.specs.Prelude.{◌≡◌, ℕ, nat_lt, List, [], map, if◌then◌else◌}
+use Rattle.std.specs.Prelude.{◌≡◌, ℕ, nat_lt, List, [], map, AllPairs, if◌then◌else◌}
 use Rattle.bf_program.specs.declared.epoch.Epoch.{Epoch}
 use Rattle.bf_id.specs.Id.{BlockId}
+use Rattle.bf_id.specs.Walk.{IsBefore}
 use Rattle.bf_case.specs.declared.case.Case.{Case}
+use Rattle.bf_case.specs.Map.{ids_of}
+use Rattle.bf_case.specs.Model.{model}
 use Rattle.bf_block.specs.declared.setup.Setup.{Setup}
 use Rattle.bf_parts.specs.Leaves.{AreAmong, part_of, side_at}
 use Rattle.bf_parts.specs.Sides.{bare}
@@ -29,8 +32,9 @@ local_at c epoch round owner home rank = record {
   spare = if nat_lt round (rounds_of epoch) then bare else side_at epoch.target epoch.members c.shift (blocks_at c epoch.target) owner rank;
 }
 
--- each leaf has an owner among the members, and each of the agreed snapshot its home, and so are the locals
+-- the model's ids rise, each leaf has an owner among the members, and each of the agreed snapshot its home, and so are the locals
 pub record AreDealt (c : Case) (epoch : Epoch) (round : ℕ) (owner home : BlockId → ℕ) (locals : List ForestLocal) : Type 0 where
+  pub rising : (time : ℕ) → AllPairs IsBefore (ids_of (model c time))
   pub owned : AreAmong epoch.members (blocks_at c (time_at epoch round)) owner
   pub housed : AreAmong epoch.homes (blocks_at c epoch.time) home
   pub are : locals ≡ map (local_at c epoch round owner home) epoch.members

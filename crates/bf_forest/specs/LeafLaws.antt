@@ -10,7 +10,7 @@ use Rattle.bf_buddy.proofs.MemberLemmas.{member_filter}
 use Rattle.bf_buddy.specs.Members.{is_member}
 use Rattle.bf_buddy.specs.Losses.{first_lost_of}
 use Rattle.bf_program.specs.declared.epoch.Epoch.{Epoch}
-use Rattle.bf_program.specs.Epochs.{target_in}
+use Rattle.bf_program.specs.Epochs.{epoch_after_commit, target_in}
 use Rattle.bf_program.specs.Restores.{heir_of, restored_epoch, restored_locals}
 use Rattle.bf_case.specs.declared.case.Case.{Case}
 use Rattle.bf_case.specs.Map.{Leaf, cells_at, ids_of}
@@ -25,13 +25,13 @@ use Rattle.bf_parts.specs.StockLaws.{owner_filled}
 use Rattle.bf_parts.specs.Sides.{bare}
 use Rattle.bf_parts.specs.Spreads.{view_at}
 use Rattle.bf_stages.specs.Stages.{World, IsPlaced, local_told}
-use Rattle.bf_stages.proofs.StartLemmas.{made_is, stored_told, counted_told, regained_world, regained_placed, restored_told}
+use Rattle.bf_stages.proofs.StartLemmas.{made_is, stored_told, counted_told, kept_world, kept_placed, kept_told, regained_world, regained_placed, restored_told}
 use Rattle.bf_forest.specs.declared.local.ForestLocal.{ForestLocal}
-use Rattle.bf_forest.specs.BlockLaws.{part_are, one_id, some_leaf}
+use Rattle.bf_forest.specs.BlockLaws.{model_map, part_are, one_id, some_leaf}
 use Rattle.bf_forest.specs.ForestLaws.{sides, staged, spans, whole_span, lawful_forest}
 use Rattle.bf_forest.specs.Goods.{IsGood, local_at, AreDealt}
 use Rattle.bf_forest.specs.Leaves.{times_among, AreLeaves}
-use Rattle.bf_forest.specs.Meanings.{forest, view_of, with_heard}
+use Rattle.bf_forest.specs.Meanings.{forest, with_heard}
 use Rattle.bf_forest.specs.ModelBlocks.{blocks_at, IsBlockAt}
 use Rattle.bf_forest.specs.StageLaws.{stage_step, stage_snapshot, stage_over, time_step, time_end, time_first}
 use Rattle.bf_forest.specs.Stages.{span, rounds_of, stage_of, time_at}
@@ -86,18 +86,20 @@ unfolding stage_of
 owned_now setup epoch round world placed =
     subst (λ (ls : Leaves BlockId BlockValue). AreAmong epoch.members ls world.owner) (leaves_now (case_of setup) epoch round (whole_span setup epoch placed.runs)) placed.owned
 
+-- so the blocks are dealt
+dealt : (setup : Setup) (epoch : Epoch) (round : ℕ) (world : ForestWorld) (locals : List ForestLocal) → Placed setup epoch round world
+    → locals ≡ map (local_told forest forest_staging setup epoch round world) epoch.members → AreDealt (case_of setup) epoch round world.owner world.home locals
+dealt setup epoch round world locals placed are = record {
+  rising = λ time. (model_map (case_of setup) time (every_setup_runs setup)).rising;
+  owned = owned_now setup epoch round world placed;
+  housed = placed.housed;
+  are = are ∙ locals_are setup epoch round world epoch.members placed.runs;
+}
+
 pub all_dealt : (setup : Setup) (epoch : Epoch) (round : ℕ) (locals : List ForestLocal) → IsGood setup epoch round locals
     → (owner : BlockId → ℕ) × (home : BlockId → ℕ) × AreDealt (case_of setup) epoch round owner home locals
 unfolding IsGood
-all_dealt setup epoch round locals good = (
-  good.world.owner,
-  good.world.home,
-  record {
-    owned = owned_now setup epoch round good.world good.fits;
-    housed = good.fits.housed;
-    are = good.are ∙ locals_are setup epoch round good.world epoch.members good.fits.runs;
-  },
-)
+all_dealt setup epoch round locals good = (good.world.owner, good.world.home, dealt setup epoch round good.world locals good.fits good.are)
 
 -- THE LEAVES OF ALL MEMBERS
 parts_are : (c : Case) (epoch : Epoch) (round : ℕ) (owner home : BlockId → ℕ) (ranks : List ℕ) → CanRun c
@@ -159,6 +161,22 @@ last_leaves setup epoch locals good =
     subst (λ t. AreLeaves (model (case_of setup) t) (flat_map (λ (local : ForestLocal). local.blocks) locals))
     (time_end epoch (rounds_of epoch) (whole_span setup epoch good.fits.runs) (omega arith)) (good_leaves setup epoch (rounds_of epoch) locals good)
 
+-- A COMMIT
+pub all_kept : (setup : Setup) (epoch : Epoch) (locals : List ForestLocal) → IsGood setup epoch (rounds_of epoch) locals → epoch.target < (case_of setup).steps
+    → (owner : BlockId → ℕ) × (home : BlockId → ℕ) × AreDealt (case_of setup) epoch (rounds_of epoch) owner home locals
+    × AreDealt (case_of setup) (epoch_after_commit (case_of setup).steps (case_of setup).snapshot epoch) 0 owner owner (map forest.keep locals)
+unfolding IsGood
+all_kept setup epoch locals good goes_on =
+    let next : Epoch = epoch_after_commit (case_of setup).steps (case_of setup).snapshot epoch in
+    let after : ForestWorld = kept_world forest forest_staging block_kind setup (staged setup) (sides setup) (spans setup) good.world in
+    let placed : Placed setup next 0 after = kept_placed forest forest_staging block_kind setup (staged setup) (sides setup) (spans setup) epoch good.world good.fits goes_on in (
+      good.world.owner,
+      good.world.home,
+      dealt setup epoch (rounds_of epoch) good.world locals good.fits good.are,
+      dealt setup next 0 after (map forest.keep locals) placed
+          (ap (map forest.keep) good.are ∙ kept_told forest forest_staging block_kind setup (staged setup) (sides setup) (spans setup) epoch good.world good.fits goes_on),
+    )
+
 -- A RESTORE
 pub restored_leaves : (setup : Setup) (epoch : Epoch) (round : ℕ) (locals : List ForestLocal) (lives : ℕ → Bool) → IsGood setup epoch round locals
     → first_lost_of epoch.homes (forest.stored locals) (filter lives epoch.members) (forest.shift setup) ≡ None
@@ -182,17 +200,9 @@ all_regained setup epoch round locals lives good none =
     let placed : Placed setup (restored_epoch lives epoch) 0 after = regained_placed forest forest_staging block_kind setup (staged setup) (sides setup) (spans setup) epoch round good.world lives good.fits none_told in (
       good.world.owner,
       good.world.home,
-      record {
-        owned = owned_now setup epoch round good.world good.fits;
-        housed = good.fits.housed;
-        are = good.are ∙ locals_are setup epoch round good.world epoch.members good.fits.runs;
-      },
-      record {
-        owned = owned_now setup (restored_epoch lives epoch) 0 after placed;
-        housed = good.fits.housed;
-        are = ap (restored_locals forest setup epoch lives) good.are ∙ restored_told forest forest_staging block_kind setup (staged setup) (sides setup) (spans setup) epoch round good.world lives good.fits
-            ∙ locals_are setup (restored_epoch lives epoch) 0 after (filter lives epoch.members) placed.runs;
-      },
+      dealt setup epoch round good.world locals good.fits good.are,
+      dealt setup (restored_epoch lives epoch) 0 after (restored_locals forest setup epoch lives locals) placed
+          (ap (restored_locals forest setup epoch lives) good.are ∙ restored_told forest forest_staging block_kind setup (staged setup) (sides setup) (spans setup) epoch round good.world lives good.fits),
     )
 
 -- THE NUMBER OF ROUNDS, and a home that has a block

@@ -1,24 +1,35 @@
 //! What holds of all ranks together, each law the contract of a call that does nothing.
-ghost use Rattle.std.specs.Prelude.{◌≡◌, ℕ, ◌+◌, ◌-◌, ◌<◌, ◌≤◌, Bool, IsTrue, List, None, filter};
+ghost use Rattle.std.specs.Prelude.{◌≡◌, ℕ, ◌+◌, ◌-◌, ◌<◌, ◌≤◌, Bool, IsTrue, List, None, filter, map};
 ghost use Rattle.std.specs.List.{flat_map};
 ghost use Rattle.bf_buddy.specs.Members.{is_member};
 ghost use Rattle.bf_buddy.specs.Losses.{first_lost_of};
 ghost use Rattle.bf_program.specs.declared.epoch.Epoch.{Epoch};
-ghost use Rattle.bf_program.specs.Epochs.{first_epoch, target_in};
+ghost use Rattle.bf_program.specs.Epochs.{first_epoch, epoch_after_commit, target_in};
+ghost use Rattle.bf_program.specs.Laws.{Laws};
 ghost use Rattle.bf_program.specs.Lockstep.{lockstep, next_locals};
+ghost use Rattle.bf_program.specs.Points.{IsSending, IsReceiving, IsFinishing};
 ghost use Rattle.bf_program.specs.Restores.{heir_of, restored_epoch, restored_locals};
+ghost use Rattle.bf_rounds.specs.Canonical.{IsSendingTold, IsHearingTold, IsFinishingTold};
+ghost use Rattle.bf_stages.specs.Stages.{telling_of};
 ghost use Rattle.bf_id.specs.Id.{BlockId};
 ghost use Rattle.bf_case.specs.Model.{model};
 ghost use Rattle.bf_block.specs.declared.setup.Setup.{Setup};
 ghost use Rattle.bf_block.specs.Setup.{case_of};
 ghost use Rattle.bf_forest.specs.declared.local.ForestLocal.{ForestLocal};
+ghost use Rattle.bf_forest.specs.declared.message.ForestMessage.{ForestMessage};
 ghost use Rattle.bf_forest.specs.Goods.{IsGood, AreDealt};
 ghost use Rattle.bf_forest.specs.Leaves.{AreLeaves};
-ghost use Rattle.bf_forest.specs.Meanings.{forest};
+ghost use Rattle.bf_forest.specs.Meanings.{forest, pieces};
 ghost use Rattle.bf_forest.specs.Stages.{rounds_of, time_at};
+ghost use Rattle.bf_forest.specs.Staging.{forest_staging};
 
 use crate::Forest;
 use bf_program::laws::the_lockstep_stays_good;
+
+/// All laws of round programs.
+pub fn the_forest_keeps_all_laws()
+    ensures { (setup : Setup) → Laws forest pieces IsGood setup }
+{}
 
 /// The ranks begin with a good vector: each root is at one of them, filled, and its copy at that rank's buddy.
 pub fn the_opening_is_good()
@@ -61,6 +72,14 @@ pub fn an_epoch_ends_at_the_model()
         → AreLeaves (model (case_of setup) epoch.target) (flat_map (λ (local : ForestLocal). (forest.parcel local).1) locals) }
 {}
 
+/// After a commit each member goes on with the blocks that it has, and is their home in the new agreed snapshot.
+pub fn a_commit_makes_owners_homes()
+    ensures { (setup : Setup) (epoch : Epoch) (locals : List ForestLocal) → IsGood setup epoch (rounds_of epoch) locals
+        → epoch.target < (case_of setup).steps
+        → (owner : BlockId → ℕ) × (home : BlockId → ℕ) × AreDealt (case_of setup) epoch (rounds_of epoch) owner home locals
+        × AreDealt (case_of setup) (epoch_after_commit (case_of setup).steps (case_of setup).snapshot epoch) 0 owner owner (map forest.keep locals) }
+{}
+
 /// Where no part of the agreed snapshot is lost, a restore gives the live members its leaves, with their cells, each leaf
 /// once.
 pub fn a_restore_rebuilds_the_agreed_map()
@@ -77,6 +96,24 @@ pub fn a_restore_gives_heirs_their_blocks()
         → (owner : BlockId → ℕ) × (home : BlockId → ℕ) × AreDealt (case_of setup) epoch round owner home locals
         × AreDealt (case_of setup) (restored_epoch lives epoch) 0 (λ i. heir_of epoch.homes (filter lives epoch.members) (case_of setup).shift (home i)) home
         (restored_locals forest setup epoch lives locals) }
+{}
+
+/// A member that sends has what it had at the beginning of the round.
+pub fn a_sender_knows_its_local()
+    ensures { (setup : Setup) (epoch : Epoch) (round : ℕ) (to : ℕ) (local : ForestLocal) → IsSending forest IsGood setup epoch round to local
+        → IsSendingTold forest (telling_of forest forest_staging) setup epoch round to local }
+{}
+
+/// One that hears a peer has heard those before it alone, and the message is what the peer tells it.
+pub fn a_receiver_knows_its_local()
+    ensures { (setup : Setup) (epoch : Epoch) (round : ℕ) (peer : ℕ) (msg : ForestMessage) (local : ForestLocal) → IsReceiving forest IsGood setup epoch round peer msg local
+        → IsHearingTold forest (telling_of forest forest_staging) setup epoch round peer msg local }
+{}
+
+/// One that ends a round has heard all its peers.
+pub fn a_finisher_knows_its_local()
+    ensures { (setup : Setup) (epoch : Epoch) (round : ℕ) (local : ForestLocal) → IsFinishing forest IsGood setup epoch round local
+        → IsFinishingTold forest (telling_of forest forest_staging) setup epoch round local }
 {}
 
 /// An epoch has a round for each of its steps, and one for the snapshot. One that a restore began makes no step: it only
