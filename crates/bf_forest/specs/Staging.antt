@@ -1,6 +1,6 @@
 -- The rounds of the forest as stages: what each rank's local is at the beginning of each, by who owns which block and who has which at home, and how
 -- each is played.
-use Rattle.std.specs.Prelude.{◌≡◌, ℕ, ◌≤◌, Bool, true, false, List, []}
+use Rattle.std.specs.Prelude.{◌≡◌, ℕ, ◌≤◌, Bool, true, false, None, List, []}
 use Rattle.bf_buddy.specs.Members.{without}
 use Rattle.bf_program.specs.declared.epoch.Epoch.{Epoch}
 use Rattle.bf_program.specs.Epochs.{target_in}
@@ -64,7 +64,7 @@ course_in c epoch (Step time) world =
     gathering (play_of c epoch (Step time)) told_blocks (local_in c epoch (Step time) world) epoch.members (λ rank. local_in c epoch (Step time) world rank [])
 course_in c epoch Snapshot world =
     lifted (λ rank view. with_heard view []) SnapshotMessage (snapshot_course sees_others c.shift epoch (trio_in c epoch Snapshot) world.owner world.home)
-course_in c epoch Over world = alone (StepMessage []) (λ rank. local_in c epoch Over world rank [])
+course_in c epoch Over world = alone (SnapshotMessage None) (λ rank. local_in c epoch Over world rank [])
 
 -- the epochs that come up
 pub record Runs (c : Case) (epoch : Epoch) : Type 0 where
