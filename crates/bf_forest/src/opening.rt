@@ -1,7 +1,6 @@
 //! The ranks' locals at the opening.
-ghost use Rattle.std.specs.Prelude.{◌≡◌, ℕ, ◌+◌, ◌<◌, List, map, IfOk};
+ghost use Rattle.std.specs.Prelude.{◌≡◌, ◌<◌, map, IfOk};
 ghost use Rattle.std.specs.List.{range_with_len};
-ghost use Rattle.bf_block.specs.Block.{BlockValue};
 ghost use Rattle.bf_block.specs.Setup.{case_of};
 ghost use Rattle.bf_forest.specs.Meanings.{first_blocks, other_first, unfilled, forest};
 

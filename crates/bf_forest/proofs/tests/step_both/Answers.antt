@@ -4,7 +4,6 @@ use Rattle.std.proofs.lemmas.List.{append-nil}
 use Rattle.bf_buddy.specs.Members.{without}
 use Rattle.bf_case.specs.declared.case.Case.{Case}
 use Rattle.bf_block.specs.declared.setup.Setup.{Setup}
-use Rattle.bf_block.specs.Block.{BlockValue}
 use Rattle.bf_block.specs.Setup.{case_of, every_setup_runs}
 use Rattle.bf_parts.specs.Leaves.{AreAmong, part_of}
 use Rattle.bf_forest.specs.declared.local.ForestLocal.{ForestLocal}
