@@ -23,10 +23,7 @@ use Rattle.bf_forest.specs.declared.known.Known.{Known}
 use Rattle.bf_forest.specs.Gathered.{cells_or, advanced}
 use Rattle.bf_forest.specs.Known.{is_known, known_grid, KnowsModel}
 use Rattle.bf_forest.specs.Ready.{IsKeptAt, next_block}
-use Rattle.bf_forest.specs.StepLaws.{block_root}
-
-some_grid : (g h : Grid) → Some g ≡ Some h → g ≡ h
-some_grid g h same = cc
+use Rattle.bf_forest.specs.StepLaws.{some_grid, block_root}
 
 -- the model has a kept block's cells
 kept_cells : (c : Case) (time : ℕ) (b : BlockValue) → CanRun c → IsKeptAt c time b → cells_at (model c time) b.id ≡ Some b.cells

@@ -4,7 +4,7 @@ use Rattle.std.specs.Prelude.{◌==◌, ◌&&◌, ◌||◌, not, filter, Some, s
 use Rattle.std.specs.List.{count_by, range_with_len, list_any}
 use Rattle.std.specs.Ordering.{is_lt, ordering_reverse}
 use Rattle.std.proofs.Math.Nat.{div-lt_iff_lt-mul, mul-lt-mul_of_pos_left, mul-le-mul}
-use Rattle.std.proofs.lemmas.Bool.{eqb-true, eq-eqb}
+use Rattle.std.proofs.lemmas.Bool.{eqb-true, eq-eqb, false_from_ne_true}
 use Rattle.std.proofs.lemmas.List.FromFn.{length-map-range_with_len}
 use Rattle.std.proofs.lemmas.List.Elements.{All-nil, All-head, All-tail, All-append, All-map, All-filter, All-weaker, All-contains, All-contains_itself, Contains-append_left, Contains-append_right}
 use Rattle.bf_buddy.specs.Members.{is_member, without}
@@ -192,18 +192,14 @@ count_none test (x ∷ xs) fails =
     count_cons test x xs ∙ ap (λ b. once b + count_by test xs) (fails 0 x (omega arith))
     ∙ ap (λ n. 0 + n) (count_none test xs (λ j d within. fails (suc j) d (omega arith)))
 
-not_true : (b : Bool) → (b ≡ true → ⊥) → b ≡ false
-not_true true never = absurd (never refl)
-not_true false never = refl
-
 count_one : {X : Type 0} (test : X → Bool) (xs : List X) (k : ℕ) (e : X) → k < length xs → test (get_or xs k e) ≡ true
     → ((j : ℕ) (d : X) → j < length xs → test (get_or xs j d) ≡ true → j ≡ k) → count_by test xs ≡ 1
 count_one test [] k e within passes alone = absurd (omega arith)
 count_one test (x ∷ xs) zero e within passes alone =
     count_cons test x xs ∙ ap (λ b. once b + count_by test xs) passes
-    ∙ ap (λ n. 1 + n) (count_none test xs (λ j d below. not_true (test (get_or xs j d)) (λ also. let same : suc j ≡ 0 = alone (suc j) d (omega arith) also in absurd (omega arith))))
+    ∙ ap (λ n. 1 + n) (count_none test xs (λ j d below. false_from_ne_true (test (get_or xs j d)) (λ also. let same : suc j ≡ 0 = alone (suc j) d (omega arith) also in absurd (omega arith))))
 count_one test (x ∷ xs) (suc k) e within passes alone =
-    count_cons test x xs ∙ ap (λ b. once b + count_by test xs) (not_true (test x) (λ also. let same : 0 ≡ suc k = alone 0 x (omega arith) also in absurd (omega arith)))
+    count_cons test x xs ∙ ap (λ b. once b + count_by test xs) (false_from_ne_true (test x) (λ also. let same : 0 ≡ suc k = alone 0 x (omega arith) also in absurd (omega arith)))
     ∙ ap (λ n. 0 + n) (count_one test xs k e (omega arith) passes (λ j d below also. let same : suc j ≡ suc k = alone (suc j) d (omega arith) also in omega arith))
 
 alike : {X : Type 0} (xs : List X) (i : ℕ) (a b : X) → i < length xs → get_or xs i a ≡ get_or xs i b

@@ -23,7 +23,7 @@ use Rattle.bf_block.specs.Block.{BlockValue, map_at}
 use Rattle.bf_forest.specs.Gathered.{leaf_of, cells_or, root_among, gathered}
 use Rattle.bf_forest.specs.ModelBlocks.{IsBlockAt}
 
-some_grid : (g h : Grid) → Some g ≡ Some h → g ≡ h
+pub some_grid : (g h : Grid) → Some g ≡ Some h → g ≡ h
 some_grid g h same = cc
 
 -- the model has a block's cells

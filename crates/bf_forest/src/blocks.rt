@@ -1,5 +1,5 @@
 //! Lists of blocks.
-ghost use Rattle.std.specs.Prelude.{◌≡◌, ◌++◌, ◌%◌, ◌^◌, IfOk, OnOk, sum};
+ghost use Rattle.std.specs.Prelude.{◌≡◌, ◌%◌, ◌^◌, IfOk, sum};
 ghost use Rattle.bf_forest.specs.Meanings.{measured};
 
 use bf_block::{Block, Memory};
@@ -16,16 +16,6 @@ pub fn copies(alloc: Global, blocks: &[Block]) -> Result<Items<Block>, Memory>
         copied.push(block.copy()?)?;
     }
     Ok(Items::of(copied))
-}
-
-/// Moves blocks to the end of others.
-pub fn append(items: &mut Items<Block>, more: Items<Block>) -> Result<(), Memory>
-    ensures { OnOk result (items.new ≡ items.old ++ more) }
-{
-    let mut all = items.moved().into_vec();
-    all.append(&mut more.into_vec())?;
-    *items = Items::of(all);
-    Ok(())
 }
 
 // The sum of a block's cells, modulo 2^64.

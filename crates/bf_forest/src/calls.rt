@@ -2,11 +2,11 @@ ghost use Rattle.std.specs.Prelude.{◌≡◌, IfOk, OnOk};
 ghost use Rattle.bf_block.specs.Setup.{case_of};
 ghost use Rattle.bf_forest.specs.Meanings.{death_of, told, heard_of, ended, restored};
 
-use crate::blocks::{append, copies};
+use crate::blocks::copies;
 use crate::{ForestLocal, ForestMessage, Stage};
 use bf_block::{Memory, Setup};
 use bf_buddy::Members;
-use bf_parts::{gives, regained, source_of};
+use bf_parts::{append, gives, regained, source_of};
 use bf_program::Epoch;
 use std::alloc::Global;
 
