@@ -28,7 +28,7 @@ use Rattle.bf_beads.specs.Meanings.{beads, pieces}
 use Rattle.bf_beads.specs.Peers.{is_peer}
 use Rattle.bf_beads.specs.RoundLaws.{has_stages}
 use Rattle.bf_beads.specs.Rounds.{play_of}
-use Rattle.bf_beads.specs.Row.{beads_at, bead_kind, IsOwnedAmong}
+use Rattle.bf_beads.specs.Row.{beads_at, IsOwnedAmong}
 use Rattle.bf_beads.specs.RowLaws.{part_among}
 use Rattle.bf_beads.specs.SpanLaws.{staged}
 use Rattle.bf_beads.specs.Stages.{stage_of}

@@ -1,5 +1,5 @@
 -- A row of beads at each time.
-use Rattle.std.proofs.Common.{◌≡◌, ℕ, suc, ◌+◌, ◌%◌, ◌^◌, ◌<◌, true, false, cond, List, map, filter, arith, refl, ap, ◌∙◌, All}
+use Rattle.std.proofs.Common.{◌≡◌, ℕ, zero, suc, ◌+◌, ◌%◌, ◌^◌, ◌<◌, ◌≤◌, Bool, true, false, cond, List, [], ◌∷◌, map, filter, arith, refl, ap, ◌∙◌, All}
 use Rattle.std.specs.Prelude.{◌==◌, nat_lt, IsTrue, slice_index_or}
 use Rattle.std.specs.List.{range_with_len, count_by, sum_by}
 use Rattle.std.proofs.lemmas.Bool.Decides.{nat_tests}
@@ -7,7 +7,7 @@ use Rattle.std.proofs.lemmas.List.Elements.{All-map, All-filter}
 use Rattle.std.proofs.lemmas.List.Kept.{AllPairs-from_increasing}
 use Rattle.bf_buddy.specs.Members.{is_member}
 use Rattle.bf_parts.specs.Bools.{eqb_swap}
-use Rattle.bf_parts.specs.Counts.{member_once}
+use Rattle.bf_parts.specs.Counts.{count_append, member_once}
 use Rattle.bf_parts.specs.CoverLaws.{count_mapped}
 use Rattle.bf_parts.specs.Leaves.{AreLeaves, AreAmong, part_of}
 use Rattle.bf_parts.specs.MergeLaws.{map_twice}
@@ -63,3 +63,17 @@ unfolding row
 one_number count unit below =
     ap (λ (f : ℕ → ℕ). sum_by f (range_with_len 0 count)) (λ i number. cond (eqb_swap number unit i) 1 0)
     ∙ member_once unit 1 (range_with_len 0 count) (range_rises count) (range_has count unit (let e : unit < count = grind (arith, nat_tests) in e))
+
+pub no_number : (count unit : ℕ) → nat_lt unit count ≡ false → count_by (λ number. number == unit) (row count) ≡ 0
+unfolding row
+no_number count unit above = none 0 count (let past : count ≤ unit = grind (arith, nat_tests, above) in omega (arith, past))
+  where
+    both : (a b : ℕ) → a ≡ 0 → b ≡ 0 → a + b ≡ 0
+    both a b one other = omega (arith, one, other)
+
+    none : (first count : ℕ) → first + count ≤ unit → count_by (λ number. number == unit) (range_with_len first count) ≡ 0
+    none first zero past = refl
+    none first (suc count) past =
+        let apart : (first == unit) ≡ false = grind (arith, nat_tests, past) in
+        let later = none (first + 1) count (omega (arith, past)) in
+        count_append (λ number. number == unit) (first ∷ []) (range_with_len (first + 1) count) ∙ both _ _ (ap (λ (b : Bool). 0 + cond b 1 0) apart) later
