@@ -19,10 +19,10 @@ use Rattle.bf_rounds.specs.Leading.{LeadsBy, Weighs, lifted, Conserves}
 use Rattle.bf_stages.specs.Moves.{Hand, GoesToPeer}
 use Rattle.bf_stages.specs.Stages.{World, Follows, HasStages, IsPlacedAt, local_of_stage, after_stage}
 use Rattle.bf_stages.specs.Snapshots.{sees_paired, snapshot_play, snapshot_course}
-use Rattle.bf_rounds.proofs.LeadLemmas.{gathers_by, alone_by, part_by, lens_part, part_conserves, still_conserves, weighs_conserves}
+use Rattle.bf_rounds.proofs.LeadLemmas.{gathers_by, part_by, lens_part, part_conserves, weighs_conserves}
 use Rattle.bf_stages.proofs.MoveLemmas.{move_by, move_weighs}
 use Rattle.bf_stages.proofs.SnapshotLemmas.{paired_sight, snapshot_by, snapshot_weighs}
-use Rattle.bf_stages.proofs.StageLemmas.{times_chain}
+use Rattle.bf_stages.proofs.StageLemmas.{alone_follows, times_chain}
 use Rattle.bf_beads.specs.declared.bead.Bead.{Bead}
 use Rattle.bf_beads.specs.declared.local.BeadLocal.{BeadLocal}
 use Rattle.bf_beads.specs.declared.message.BeadMessage.{BeadMessage}
@@ -142,19 +142,17 @@ module _ (setup : BeadSetup) (epoch : Epoch) where
   }
 
   grow_follows : (time : ℕ) → LeadsTo (Grow time) (Move time)
-  grow_follows time = record {
-    leads = λ world placed. alone_by (play_of setup.shift epoch (Grow time)) (Told []) epoch.members
-        (λ rank. embed world rank (hand_at n time world.owner rank (heard_at n time epoch.members world.owner rank)))
-        (λ rank. embed world rank (hand_at n (time + 1) world.owner rank [])) (λ rank is_in. refl)
-        (λ rank is_in. ap (λ (items : List Bead). embed world rank (record { rank = rank; known = []; items = items })) (grown_part n time world.owner rank));
+  grow_follows time = alone_follows beads staging setup pieces epoch (Grow time) (Move time) (Told []) (record {
+    course_is = λ world. refl;
+    peers = λ local. refl;
+    finish = λ world rank placed is_in. ap (λ (items : List Bead). embed world rank (record { rank = rank; known = []; items = items })) (grown_part n time world.owner rank);
     owned = λ world placed. placed.owned;
     also = λ world placed. tt;
-    conserves = λ world unit placed. still_conserves (λ local. times pieces (pieces.of_local local) unit) (λ msg. times pieces (pieces.of_message msg) unit) epoch.members
-        (course_of n setup.shift epoch (Grow time) world) (λ rank. embed world rank (hand_at n (time + 1) world.owner rank []))
-        (λ rank. count_by (λ number. number == unit) (numbers_of (part_of (beads_at n time) world.owner rank))) (λ from to. refl) (λ rank done. refl) (λ rank done. refl)
-        (λ rank is_in. ap (λ (items : List Bead). count_by (λ number. number == unit) (numbers_of items)) (sym (grown_part n time world.owner rank))
-        ∙ ap (count_by (λ number. number == unit)) (map_twice (λ (bead : Bead). bead.number) (grown time) (λ (bead : Bead). bead.number) (λ bead. refl) (part_of (beads_at n time) world.owner rank)));
-  }
+    light = λ unit. refl;
+    same = λ unit world rank placed is_in.
+        ap (λ (items : List Bead). count_by (λ number. number == unit) (numbers_of items)) (sym (grown_part n time world.owner rank))
+        ∙ ap (count_by (λ number. number == unit)) (map_twice (λ (bead : Bead). bead.number) (grown time) (λ (bead : Bead). bead.number) (λ bead. refl) (part_of (beads_at n time) world.owner rank));
+  })
 
   -- what comes next has the same beads, and nothing heard
   move_follows : (time : ℕ) (next : Stage)

@@ -1,5 +1,5 @@
 //! Lists of beads.
-ghost use Rattle.std.specs.Prelude.{◌≡◌, ◌++◌, filter, map, IfOk, OnOk, length, ◌%◌, ◌^◌};
+ghost use Rattle.std.specs.Prelude.{◌≡◌, filter, map, IfOk};
 ghost use Rattle.std.specs.List.{list_any};
 ghost use Rattle.bf_beads.specs.Rounds.{is_linked, is_neighbor};
 ghost use Rattle.bf_beads.specs.Row.{grown, total};
@@ -55,16 +55,6 @@ pub fn linked_copies(alloc: Global, beads: &[Bead], other: u32) -> Result<Items<
         }
     }
     Ok(Items::of(all))
-}
-
-/// Moves beads to the end of others.
-pub fn append(items: &mut Items<Bead>, more: Items<Bead>) -> Result<(), Memory>
-    ensures { OnOk result (items.new ≡ items.old ++ more) }
-{
-    let mut all = items.moved().into_vec();
-    all.append(&mut more.into_vec())?;
-    *items = Items::of(all);
-    Ok(())
 }
 
 /// The beads one step of time later.

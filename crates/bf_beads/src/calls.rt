@@ -1,18 +1,16 @@
 //! The calls of each round.
-ghost use Rattle.std.specs.Prelude.{◌≡◌, ◌%◌, ◌^◌, IfOk, OnOk, length, Option};
+ghost use Rattle.std.specs.Prelude.{◌≡◌, IfOk, OnOk, Option};
 ghost use Rattle.bf_program.specs.declared.epoch.Epoch.{Epoch};
-ghost use Rattle.bf_parts.specs.Spreads.{restored_view};
 ghost use Rattle.bf_stages.specs.Snapshots.{given_part};
 ghost use Rattle.bf_parts.specs.Sides.{gives};
-ghost use Rattle.bf_beads.specs.Locals.{told_in, moved_in, copied_in, beads_in, local_with};
+ghost use Rattle.bf_beads.specs.Locals.{told_in, moved_in, copied_in, beads_in};
 ghost use Rattle.bf_beads.specs.Rounds.{grow_play, play_of};
-ghost use Rattle.bf_beads.specs.Row.{bead_kind, total};
 
-use crate::beads::{append, copies, grown, linked_copies};
+use crate::beads::{copies, grown, linked_copies};
 use crate::moving::{relinked, take_out};
 use crate::{Bead, BeadLocal, BeadMessage, Items, Stage};
 use bf_buddy::Members;
-use bf_parts::{gives, merge, source_of};
+use bf_parts::{append, gives, merge, source_of};
 use bf_program::{Epoch, Memory};
 use std::alloc::Global;
 

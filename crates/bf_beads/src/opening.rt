@@ -1,7 +1,7 @@
 ghost use Rattle.std.specs.Prelude.{◌≡◌, ◌<◌, ◌≤◌, IfOk};
 ghost use Rattle.bf_parts.specs.Leaves.{part_of, copy_at};
 ghost use Rattle.bf_beads.specs.Meanings.{beads, opened};
-ghost use Rattle.bf_beads.specs.Row.{is_beside, links_of, bead_at, beads_at, home_in};
+ghost use Rattle.bf_beads.specs.Row.{is_beside, links_of, beads_at, home_in};
 
 use crate::{Bead, BeadLocal, BeadSetup, Items, Link};
 use bf_buddy::Members;

@@ -1,4 +1,4 @@
-ghost use Rattle.std.specs.Prelude.{◌≡◌, ◌<◌, IsTrue, All, [], IfOk};
+ghost use Rattle.std.specs.Prelude.{◌≡◌, ◌<◌, IsTrue, All, IfOk};
 ghost use Rattle.bf_core.specs.States.{is_finished};
 ghost use Rattle.bf_world.specs.Worlds.{core_after};
 ghost use Rattle.bf_drive.specs.Drives.{IsDriven};
