@@ -4,7 +4,10 @@
 //! its side of the snapshot, which has its own part and that of the home whose buddy it is, are told by these. Each key
 //! is in one part. Who is to hold a home's part has it; a restore gives each stored part to its heir and to no one else,
 //! and a live rank then goes on with exactly its part by the heirs, in rising order, with dead owners in links replaced.
-//! So commits and restores, in any row, lead from told parts to told parts.
+//!
+//! A commit leads from told parts to told parts, where the new snapshot is of the leaves that the ranks have, and so does a
+//! restore. Where that loses nothing, each leaf's heir is live and each filled home still has a live holder, so that
+//! another may follow: all restores in a row go back to the one agreed snapshot.
 #![tactic(auto)]
 
 pub mod laws;

@@ -1,4 +1,4 @@
--- Stages in which leaves become others at their owners: parts, owners and what they weigh.
+-- Stages in which leaves become others at their owners: parts, owners and what they weigh. They are for leaves that are refined and merge, which no program has yet.
 use Rattle.std.proofs.Common.{◌≡◌, ℕ, ◌+◌, Bool, true, false, cond, List, [], ◌∷◌, ◌++◌, map, filter, flat_map, refl, sym, ap, ◌∙◌, subst}
 use Rattle.std.specs.Prelude.{◌==◌, All}
 use Rattle.std.specs.List.{count_by}
