@@ -20,6 +20,28 @@ fn setup() -> BeadSetup
     BeadSetup::new(3, 4, 2, 1, 0, deaths)
 }
 
+#[derive(Drop)]
+struct Three {
+    a: BeadLocal,
+    b: BeadLocal,
+    c: BeadLocal,
+}
+
+fn opened_three(alloc: Global) -> Result<Three, Memory> {
+    let setup = setup();
+    Ok(Three {
+        a: opened(alloc, &setup, 0)?,
+        b: opened(alloc, &setup, 1)?,
+        c: opened(alloc, &setup, 2)?,
+    })
+}
+
+// The first of five ranks with a bead each.
+fn first_of_five(alloc: Global) -> Result<BeadLocal, Memory> {
+    let five = BeadSetup::new(5, 5, 2, 1, 0, [None; 32]);
+    opened(alloc, &five, 0)
+}
+
 fn epoch() -> Epoch {
     Epoch::first(3, 2, 1)
 }
@@ -77,7 +99,11 @@ fn expect_owners(rt: &impl Abort, beads: &Items<Bead>, first: u32, second: u32) 
 #[test]
 #[tactic(none)]
 fn the_first_rank_begins_with_two_beads_and_a_copy(rt: HostRuntime) -> Result<(), Fail> {
-    let local = opened(rt.alloc(), &setup(), 0)?;
+    let Three {
+        a: local,
+        b: _,
+        c: _,
+    } = opened_three(rt.alloc())?;
     expect_two(&rt, &local.beads, 0, 3);
     expect_values(&rt, &local.beads, 1, 4);
     expect_owners(&rt, &local.beads, 1, 2);
@@ -92,9 +118,11 @@ fn the_first_rank_begins_with_two_beads_and_a_copy(rt: HostRuntime) -> Result<()
 #[tactic(none)]
 fn beads_go_to_the_next_member_and_links_follow(rt: HostRuntime) -> Result<(), Fail> {
     let alloc = rt.alloc();
-    let mut a = opened(alloc, &setup(), 0)?;
-    let mut b = opened(alloc, &setup(), 1)?;
-    let mut c = opened(alloc, &setup(), 2)?;
+    let Three {
+        mut a,
+        mut b,
+        mut c,
+    } = opened_three(alloc)?;
     pass(alloc, Stage::Move(0), &mut a, &mut b)?;
     pass(alloc, Stage::Move(0), &mut c, &mut a)?;
     end(alloc, Stage::Move(0), epoch(), 0, &mut a)?;
@@ -112,8 +140,7 @@ fn beads_go_to_the_next_member_and_links_follow(rt: HostRuntime) -> Result<(), F
 #[tactic(none)]
 fn what_a_neighbour_tells_is_let_go_when_beads_grow(rt: HostRuntime) -> Result<(), Fail> {
     let alloc = rt.alloc();
-    let mut a = opened(alloc, &setup(), 0)?;
-    let mut b = opened(alloc, &setup(), 1)?;
+    let Three { mut a, mut b, c: _ } = opened_three(alloc)?;
     pass(alloc, Stage::Tell(7), &mut b, &mut a)?;
     expect_one(&rt, &a.heard, 1);
     expect_one(&rt, &b.beads, 1);
@@ -132,8 +159,7 @@ fn expect_peers(rt: &impl Abort, stage: Stage, local: &BeadLocal, count: u32, la
 #[test]
 #[tactic(none)]
 fn who_has_linked_beads_is_told(rt: HostRuntime) -> Result<(), Fail> {
-    let five = BeadSetup::new(5, 5, 2, 1, 0, [None; 32]);
-    let first = opened(rt.alloc(), &five, 0)?;
+    let first = first_of_five(rt.alloc())?;
     expect_peers(&rt, Stage::Tell(0), &first, 1, Some(1));
     expect_peers(&rt, Stage::Grow(0), &first, 0, None);
     expect_peers(&rt, Stage::Move(0), &first, 4, Some(4));
@@ -148,7 +174,11 @@ fn expect_measure(rt: &impl Abort, msg: &BeadMessage, blocks: u32, sum: u64) {
 #[test]
 #[tactic(none)]
 fn a_message_weighs_its_beads(rt: HostRuntime) -> Result<(), Fail> {
-    let mut local = opened(rt.alloc(), &setup(), 0)?;
+    let Three {
+        a: mut local,
+        b: _,
+        c: _,
+    } = opened_three(rt.alloc())?;
     let msg = send(rt.alloc(), Stage::Snapshot, epoch(), 0, &mut local, 1)?;
     expect_measure(&rt, &msg, 2, 5);
     let none = send(rt.alloc(), Stage::Snapshot, epoch(), 0, &mut local, 2)?;
