@@ -1,6 +1,6 @@
-//! Runs of three ranks with four beads, with deaths and in various orders.
+//! Runs of three and of four ranks with four beads, with deaths and in various orders.
 //!
-//! Bead k begins at rank k mod 3 with the value k + 1. From time 0 to 1 each grows by its number, and from 1 to 2 by its number
+//! Bead k begins at rank k mod 3, or at rank k of four, with the value k + 1. From time 0 to 1 each grows by its number, and from 1 to 2 by its number
 //! and one: to 3k + 2 in all, which is 2, 5, 8 and 11. Beads 0 and 2 go to the next member in the first step, 1 and 3 in the second.
 ghost use Rattle.std.specs.Prelude.{◌≡◌};
 
@@ -38,7 +38,7 @@ fn is_given(parcels: &[(u32, Items<Bead>)], rank: u32, number: u32, value: u32) 
         .any(|parcel| parcel.0 == rank && has(&parcel.1, number, value))
 }
 
-// Whether a rank gives a bead that is linked with another of an owner.
+// Whether a bead has a link to another, of this owner.
 fn is_linked(bead: &Bead, other: u32, owner: u32) -> bool {
     for link in bead.links.as_slice() {
         if link.number == other && link.owner == owner {
@@ -57,6 +57,7 @@ fn has_link(beads: &Items<Bead>, number: u32, other: u32, owner: u32) -> bool {
     false
 }
 
+// Whether a rank gives a bead that is linked with another of an owner.
 fn links(parcels: &[(u32, Items<Bead>)], number: u32, other: u32, owner: u32) -> bool {
     parcels
         .iter()
@@ -181,6 +182,45 @@ fn deaths_of_both_holders_lose_a_part(rt: HostRuntime) -> Result<(), Fail> {
     assert!(rt; world.finished());
     assert_eq!(rt; world.parcels().len(), 0);
     assert_eq!(rt; world.restores(), 0);
+    Ok(())
+}
+
+// Four ranks with a bead each, of which the second dies before it does anything, and the last after so many events.
+fn four(last: u32) -> BeadSetup
+    ensures { result.ranks ≡ 4 }
+{
+    let mut deaths = [None; 32];
+    deaths[1] = Some(0);
+    deaths[3] = Some(last);
+    BeadSetup::new(4, 4, 2, 1, 0, deaths)
+}
+
+// The third rank goes on with beads 1 and 2, and the first, as the last rank's buddy, with 0 and 3. In the first step they
+// change 0 for 2, and in the second 1 for 3.
+fn expect_two_restores(rt: &impl Abort, world: &World<Beads>) {
+    expect_finished(rt, world, 2, 2);
+    assert!(rt; is_given(world.parcels(), 2, 0, 2));
+    assert!(rt; is_given(world.parcels(), 0, 1, 5));
+    assert!(rt; is_given(world.parcels(), 0, 2, 8));
+    assert!(rt; is_given(world.parcels(), 2, 3, 11));
+    expect_links(rt, world, 2, 0, 0, 2);
+}
+
+// In passes the last rank has seven events before the copies are made again: it sends to its neighbour and hears it, sends
+// to the three others, arrives and leaves. With one send more it dies before the others agree on the new copies.
+#[test]
+fn a_death_while_copies_are_made_again_changes_no_values(rt: HostRuntime) -> Result<(), Fail> {
+    let world = run(rt.alloc(), four(8), &[])?;
+    expect_two_restores(&rt, &world);
+    Ok(())
+}
+
+// After those seven it makes the copies again in two sends and two receives, arrives and leaves. Now it has given its
+// bead to the first rank anew.
+#[test]
+fn a_death_after_copies_are_made_again_changes_no_values(rt: HostRuntime) -> Result<(), Fail> {
+    let world = run(rt.alloc(), four(13), &[])?;
+    expect_two_restores(&rt, &world);
     Ok(())
 }
 
