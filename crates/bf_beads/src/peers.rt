@@ -28,8 +28,8 @@ fn is_peer(stage: Stage, members: Members, shift: u32, local: &BeadLocal, other:
 pub fn peers_of(stage: Stage, members: Members, shift: u32, local: &BeadLocal) -> Members
     ensures { result ≡ filter (is_peer stage members shift local.now) members }
 {
-    // its contract tells that members are below 32
-    let count = members.count();
+    // members are below 32, so the loop passes none by
+    let _ = members.count();
     let mut peers = members;
     for other in 0..32u32 {
         if !is_peer(stage, members, shift, local, other) {
