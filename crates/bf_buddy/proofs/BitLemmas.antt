@@ -1,5 +1,5 @@
 -- Ranks as the bits of a number.
-use Rattle.std.proofs.Common.{◌≡◌, ◌≢◌, ℕ, suc, zero, ◌+◌, ◌-◌, ◌*◌, ◌/◌, ◌%◌, ◌^◌, ◌<◌, ◌≤◌, Bool, true, false, cond, not, ◌&&◌, List, [], ◌∷◌, arith, refl, ap, sym, ◌∙◌, inl, inr, get_or, lit<}
+use Rattle.std.proofs.Common.{◌≡◌, ◌≢◌, ℕ, suc, zero, ◌+◌, ◌-◌, ◌*◌, ◌/◌, ◌%◌, ◌^◌, ◌<◌, ◌≤◌, Bool, true, false, cond, not, ◌&&◌, List, [], ◌∷◌, arith, refl, ap, sym, ◌∙◌, inl, inr, lit<}
 use Rattle.std.specs.Prelude.{◌==◌, Option, filter, bit_and}
 use Rattle.std.specs.List.{range_with_len, position_from}
 use Rattle.std.specs.Int.{bit_at}
@@ -9,18 +9,18 @@ use Rattle.std.proofs.lemmas.Nat.Bits.{bit_at_clear_same, bit_at_clear_other}
 use Rattle.std.proofs.lemmas.Iterator.Adapters.{position_from-zero}
 use Rattle.std.proofs.lemmas.Bool.{cases_lt, cases_eq, eqb-true, eq-eqb}
 use Rattle.std.proofs.lemmas.Map.Views.{any-filter_same}
-use Rattle.std.proofs.lemmas.List.FromFn.{length-range_with_len, get_or-range_with_len}
 use Rattle.std.proofs.lemmas.List.Kept.{IsStrictlyIncreasing-filter}
 use Rattle.std.proofs.lemmas.List.Elements.{All-filter}
 use Rattle.std.proofs.Math.Nat.{mod-eq_of_lt, pow-le-pow_right}
 use Rattle.std.proofs.lemmas.Nat.{pow_pos}
-use Rattle.std.proofs.lemmas.List.Folds.{list_any_at}
 use Rattle.std.proofs.Math.Pow.{pow-lt}
-use Rattle.std.specs.Prelude.{All, slice_index, slice_get, Some, None}
-use Rattle.std.specs.List.{list_any}
+use Rattle.std.specs.Prelude.{All, slice_get, Some, None}
 use Rattle.std.specs.List.Sorted.{IsStrictlyIncreasing}
 use Rattle.std.specs.Int.{w32}
 use Rattle.bf_buddy.specs.Members.{has_bit, ranks_in, is_member, without, place_in}
+use Rattle.bf_buddy.proofs.MemberLemmas.{all_members, range_has, range_within, range_rises}
+use Rattle.std.proofs.Math.Bool.{and-true, and-false}
+use Rattle.std.proofs.lemmas.Bool.{false_from_ne_true}
 
 -- the code's test of a bit
 pub has_bit_test : (bits rank : ℕ) → has_bit bits rank ≡ (bit_and (bits / 2 ^ rank) 1 == 1)
@@ -141,64 +141,37 @@ ones_fit n fits =
     let plain = shifted n fits in
     (omega arith, omega arith)
 
--- whether a number is among n numbers from k on
-among : (r n k : ℕ) → k ≤ r → r < k + n → list_any (λ member. member == r) (range_with_len k n) ≡ true
-among r n k low high =
-    let at : get_or (range_with_len k n) (r - k) 0 ≡ r = get_or-range_with_len k n (r - k) 0 (omega arith) ∙ omega arith in
-    list_any_at (λ member. member == r) (range_with_len k n) (r - k) 0 (omega (arith, length-range_with_len k n)) (eq-eqb (get_or (range_with_len k n) (r - k) 0) r at)
-
-beyond : (r n k : ℕ) → k + n ≤ r → list_any (λ member. member == r) (range_with_len k n) ≡ false
-beyond r zero k above = refl
-beyond r (suc n) k above =
-    let rest : list_any (λ member. member == r) (range_with_len (k + 1) n) ≡ false = beyond r n (k + 1) (omega arith) in
-    let first : (k == r) ≡ false = grind (arith, nat_tests) in
-    rw (first, rest) refl
+-- no number beyond a range is in it
+beyond : (n r : ℕ) → n ≤ r → is_member (range_with_len 0 n) r ≡ false
+beyond n r above = false_from_ne_true (is_member (range_with_len 0 n) r) (λ is_in. within (range_within 0 n r is_in))
+  where
+    within : r < 0 + n → ⊥
+    within below = omega arith
 
 same_bit : (bits r k : ℕ) → (k == r) ≡ true → has_bit bits k ≡ has_bit bits r
 same_bit bits r k same = ap (has_bit bits) (eqb-true k r same)
-
-and_true : (b : Bool) → (b && true) ≡ b
-and_true true = refl
-and_true false = refl
-
-and_false : (b : Bool) → (b && false) ≡ false
-and_false true = refl
-and_false false = refl
 
 pub is_member-ranks_in : (bits r : ℕ) → r < 32 → is_member (ranks_in bits) r ≡ has_bit bits r
 unfolding ranks_in
 is_member-ranks_in bits r below =
     any-filter_same (λ member. member == r) (has_bit bits) (has_bit bits r) (λ k same. same_bit bits r k same) (range_with_len 0 32)
-    ∙ ap (λ b. has_bit bits r && b) (among r 32 0 (omega arith) (omega arith)) ∙ and_true (has_bit bits r)
+    ∙ ap (λ b. has_bit bits r && b) (range_has 32 r below) ∙ and-true (has_bit bits r)
 
 pub is_member-beyond : (bits r : ℕ) → 32 ≤ r → is_member (ranks_in bits) r ≡ false
 unfolding ranks_in
 is_member-beyond bits r above =
     any-filter_same (λ member. member == r) (has_bit bits) (has_bit bits r) (λ k same. same_bit bits r k same) (range_with_len 0 32)
-    ∙ ap (λ b. has_bit bits r && b) (beyond r 32 0 above) ∙ and_false (has_bit bits r)
+    ∙ ap (λ b. has_bit bits r && b) (beyond 32 r above) ∙ and-false (has_bit bits r)
 
 pub ruleset member_steps = (is_member-ranks_in, is_member-beyond)
 
-range_rises : (a n : ℕ) → IsStrictlyIncreasing (range_with_len a n)
-range_rises a n k below =
-    let within : k + 1 < n = omega (arith, length-range_with_len a n) in
-    let here : slice_index (range_with_len a n) k ≡ a + k = get_or-range_with_len a n k 0 (omega arith) in
-    let next : slice_index (range_with_len a n) (k + 1) ≡ a + (k + 1) = get_or-range_with_len a n (k + 1) 0 within in
-    omega arith
-
 pub ranks_rise : (bits : ℕ) → IsStrictlyIncreasing (ranks_in bits)
 unfolding ranks_in
-ranks_rise bits = IsStrictlyIncreasing-filter (has_bit bits) (range_with_len 0 32) (range_rises 0 32)
-
-range_below : (a n : ℕ) → All (λ rank. rank < a + n) (range_with_len a n)
-range_below a n k d below =
-    let within : k < n = omega (arith, length-range_with_len a n) in
-    let here : get_or (range_with_len a n) k d ≡ a + k = get_or-range_with_len a n k d within in
-    omega arith
+ranks_rise bits = IsStrictlyIncreasing-filter (has_bit bits) (range_with_len 0 32) (range_rises 32)
 
 pub ranks_below : (bits : ℕ) → All (λ rank. rank < 32) (ranks_in bits)
 unfolding ranks_in
-ranks_below bits = All-filter (has_bit bits) (λ rank. rank < 32) (range_with_len 0 32) (range_below 0 32)
+ranks_below bits = All-filter (has_bit bits) (λ rank. rank < 32) (range_with_len 0 32) (all_members (λ rank. rank < 32) (range_with_len 0 32) (range_within 0 32))
 
 pub ruleset rank_facts = (ranks_rise, ranks_below)
 
@@ -222,9 +195,9 @@ clear_bit bits r i below within =
     elim (cases_eq i r) [
       | inl same ↦ let test : (i == r) ≡ true = eq-eqb i r same in
           let none : bit_at (bit_and bits (2 ^ 32 - 1 - 1 * 2 ^ r % 2 ^ 32)) i ≡ 0 = ap (bit_at (bit_and bits (2 ^ 32 - 1 - 1 * 2 ^ r % 2 ^ 32))) same ∙ bit_at_clear_same w32 bits r below in
-          rw (none, test) (sym (and_false (bit_at bits i == 1)))
+          rw (none, test) (sym (and-false (bit_at bits i == 1)))
       | inr other ↦ let test : (i == r) ≡ false = grind (arith, nat_tests) in
-          rw (bit_at_clear_other w32 bits r below i within other, test) (sym (and_true (bit_at bits i == 1)))
+          rw (bit_at_clear_other w32 bits r below i within other, test) (sym (and-true (bit_at bits i == 1)))
     ]
 
 pub ranks_in-clear : (bits r : ℕ) → r < 32 → ranks_in (bit_and bits (2 ^ 32 - 1 - 1 * 2 ^ r % 2 ^ 32)) ≡ without (ranks_in bits) r
@@ -235,7 +208,7 @@ ranks_in-clear bits r below =
 beyond_bit : (bits r i : ℕ) → 32 ≤ r → i < 32 → has_bit bits i ≡ (has_bit bits i && not (i == r))
 beyond_bit bits r i above within =
     let other : (i == r) ≡ false = grind (arith, nat_tests) in
-    rw other (sym (and_true (has_bit bits i)))
+    rw other (sym (and-true (has_bit bits i)))
 
 pub without-beyond : (bits r : ℕ) → 32 ≤ r → ranks_in bits ≡ without (ranks_in bits) r
 unfolding ranks_in

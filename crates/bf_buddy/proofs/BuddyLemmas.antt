@@ -3,7 +3,7 @@ use Rattle.std.proofs.Common.{◌≡◌, ◌≢◌, ℕ, suc, zero, ◌+◌, ◌
 use Rattle.std.specs.Prelude.{◌==◌, slice_index, slice_get, find, nat_lt, IsTrue, Some, None}
 use Rattle.std.specs.List.{position_or_len}
 use Rattle.std.specs.List.Sorted.{IsStrictlyIncreasing}
-use Rattle.std.proofs.lemmas.Bool.{cases_lt, eqb-true, eq-eqb}
+use Rattle.std.proofs.lemmas.Bool.{cases_lt, eqb-true, eq-eqb, ne_eqb}
 use Rattle.std.proofs.lemmas.Bool.Decides.{nat_tests}
 use Rattle.std.proofs.lemmas.Grind.{common_steps}
 use Rattle.std.proofs.lemmas.List.Sums.{position_or_len_is, passes_at_first}
@@ -142,9 +142,6 @@ pub buddy_from : (members : List ℕ) → IsStrictlyIncreasing members → (i sh
 unfolding buddy_of
 buddy_from members up i shift within = rw (place_at members up i within) refl
 
-differ : (a b : ℕ) → (a ≡ b → ⊥) → (a == b) ≡ false
-differ a b other = grind (arith, nat_tests, other)
-
 apart : (a b : ℕ) → b < a → a ≡ b → ⊥
 apart a b below same = omega arith
 
@@ -155,7 +152,7 @@ others_differ members up p k shift within below =
     let last : predecessor_place (length members) p shift < length members = predecessor_within (length members) p shift within in
     let k_within : k < length members = omega arith in
     let b_within : buddy_place (length members) k shift < length members = buddy_within (length members) k shift k_within in
-    differ (buddy_of members (slice_index members k) shift) (slice_index members p)
+    ne_eqb (buddy_of members (slice_index members k) shift) (slice_index members p)
     (λ same. apart (predecessor_place (length members) p shift) k below
     (ap (λ n. predecessor_place (length members) n shift)
     (sym (place_at members up p within) ∙ ap (place_of members) (sym same ∙ buddy_from members up k shift k_within) ∙ place_at members up (buddy_place (length members) k shift) b_within)

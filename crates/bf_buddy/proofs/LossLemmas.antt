@@ -1,12 +1,12 @@
 -- The search for the first lost home.
-use Rattle.std.proofs.Common.{◌≡◌, ℕ, ◌+◌, ◌<◌, ◌≤◌, Bool, true, false, cond, not, ◌&&◌, ◌||◌, List, [], ◌∷◌, arith, refl, ap, sym, ◌∙◌}
+use Rattle.std.proofs.Common.{◌≡◌, ℕ, ◌+◌, ◌<◌, ◌≤◌, Bool, true, false, cond, not, ◌&&◌, ◌||◌, List, [], ◌∷◌, refl, ap, sym, ◌∙◌}
 use Rattle.std.specs.Prelude.{◌==◌, ◌↔◌, find, Option, Some, None}
 use Rattle.std.specs.Option.{option_map}
 use Rattle.std.proofs.lemmas.Bool.{eqb-true}
-use Rattle.std.proofs.lemmas.Bool.Decides.{nat_tests}
 use Rattle.bf_buddy.specs.Members.{is_member, ranks_in, has_bit}
 use Rattle.bf_buddy.specs.Buddy.{buddy_of}
 use Rattle.bf_buddy.specs.Losses.{is_lost, first_lost_home, first_lost_of, LosesNothing}
+use Rattle.bf_buddy.proofs.MemberLemmas.{member_head, member_tail}
 use Rattle.bf_buddy.proofs.BitLemmas.{ranks_from, ranks_from-zero, ranks_from-end, ranks_from-has, ranks_from-lacks, is_member-ranks_in}
 
 -- the first lost home from a rank on, of homes that are bits
@@ -69,13 +69,9 @@ none_passes test (x ∷ rest) none r member = first_fails (λ later. none_passes
 finds_none : (test : ℕ → Bool) (xs : List ℕ) → ((r : ℕ) → is_member xs r ≡ true → test r ≡ false) → find test xs ≡ None
 finds_none test [] fails = refl
 finds_none test (x ∷ rest) fails =
-    let here : test x ≡ false = fails x (grind (arith, nat_tests)) in
-    let later : find test rest ≡ None = finds_none test rest (λ r member. fails r (in_rest (x == r) (is_member rest r) member)) in
+    let here : test x ≡ false = fails x (member_head x rest) in
+    let later : find test rest ≡ None = finds_none test rest (λ r member. fails r (member_tail x r rest member)) in
     rw (here, later) refl
-  where
-    in_rest : (a b : Bool) → b ≡ true → (a || b) ≡ true
-    in_rest true b is_in = refl
-    in_rest false b is_in = is_in
 
 kept_by : (filled home buddy : Bool) → (filled && not home && not buddy) ≡ false → filled ≡ true → (home || buddy) ≡ true
 kept_by filled true buddy kept is_filled = refl
