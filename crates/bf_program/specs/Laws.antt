@@ -20,7 +20,7 @@ times regions boxes unit = count_by (λ box. regions.holds box unit) boxes
 abbrev pub is_holder : (homes : List ℕ) → (shift home rank : ℕ) → Bool
 is_holder homes shift home rank = home == rank || buddy_of homes home shift == rank
 
--- ranks, steps, shift, interval and the numbers of rounds are within their limits
+-- ranks, steps, shift, interval and the numbers of rounds are within their limits, and ranks die that there are, once each
 pub record KeepsLimits {S L M T R : Type 0} (m : Meanings S L M T R) (setup : S) : Type 0 where
   pub some_rank : 1 ≤ m.ranks setup
   pub ranks : m.ranks setup ≤ 32
@@ -29,6 +29,8 @@ pub record KeepsLimits {S L M T R : Type 0} (m : Meanings S L M T R) (setup : S)
   pub some_interval : 1 ≤ m.interval setup
   pub interval : m.interval setup ≤ 128
   pub rounds : (epoch : Epoch) → m.rounds setup epoch < 2 ^ 32
+  pub deaths : All (λ (death : ℕ × ℕ). death.0 < m.ranks setup) (m.deaths setup)
+  pub rising_deaths : IsStrictlyIncreasing (map (λ (death : ℕ × ℕ). death.0) (m.deaths setup))
 
 -- what a restore reads changes by `keep` alone, and beside it a restore rests on the setup, the rank and the epoch alone
 pub record KeepsReads {S L M T R : Type 0} (m : Meanings S L M T R) (setup : S) : Type 0 where

@@ -1,5 +1,5 @@
 -- What the calls of a round program mean, on plain values.
-use Rattle.std.specs.Prelude.{ℕ, Bool, List, Option}
+use Rattle.std.specs.Prelude.{ℕ, Bool, List}
 use Rattle.bf_program.specs.declared.epoch.Epoch.{Epoch}
 use Rattle.bf_program.specs.declared.measure.Measure.{Measure}
 
@@ -10,8 +10,8 @@ pub record Meanings (S L M T R : Type 0) : Type 0 where
   pub shift : S → ℕ
   -- how much time lies between two snapshots
   pub interval : S → ℕ
-  -- after how many events a rank dies, if it is to die
-  pub death : S → (rank : ℕ) → Option ℕ
+  -- the ranks that die, rising, and how many events each has by then
+  pub deaths : S → List (ℕ × ℕ)
   pub rounds : S → Epoch → ℕ
   pub peers : S → L → Epoch → (round : ℕ) → List ℕ
   -- the local that has sent to a peer, and the message

@@ -60,9 +60,9 @@ pub trait RankProgram {
     fn target(setup: &Self::Setup, time: u32) -> u32
         ensures { result ≡ target_of (meanings.steps setup.now) (meanings.interval setup.now) time };
 
-    /// After how many events the rank dies, if it is to die.
-    fn dies(setup: &Self::Setup, rank: u32) -> Option<u32>
-        ensures { result ≡ meanings.death setup.now rank };
+    /// The ranks that die, rising, and how many events each has by then.
+    fn dies(setup: &Self::Setup) -> &[(u32, u32)]
+        ensures { result.now ≡ meanings.deaths setup.now };
 
     /// The number of rounds of an epoch. It follows the epoch's target, so an epoch that a restore began has no more of them
     /// than its snapshot takes.

@@ -13,7 +13,7 @@ use Rattle.bf_core.specs.declared.standing.Stage.TheVariants.{Running}
 use Rattle.bf_core.specs.declared.standing.Standing.{Standing}
 use Rattle.bf_core.specs.States.{stage, opening}
 use Rattle.bf_core.proofs.StageLemmas.{nobody}
-use Rattle.bf_world.specs.Runs.{deaths, opening_run, run_after}
+use Rattle.bf_world.specs.Runs.{opening_run, run_after}
 use Rattle.bf_rank.specs.declared.stand.Stand.TheVariants as stands
 use Rattle.bf_rank.specs.Ranks.{IsAt}
 use Rattle.bf_rank.specs.Steps.{holding}
@@ -23,7 +23,7 @@ module _ {S L M T R : Type 0} (m : Meanings S L M T R) (good : S → Epoch → �
   opening_stage : (rank : ℕ) → rank < m.ranks setup → stage (opening_run {T = T} m setup).core rank ≡ Running
   unfolding opening_run opening
   opening_stage rank ranked =
-      ap (λ s. s.stage) (get_or-map-range_with_len {X = Standing} (λ r. record { stage = Running; death = lookup (λ other. other == r) (deaths m setup); events = 0 })
+      ap (λ s. s.stage) (get_or-map-range_with_len {X = Standing} (λ r. record { stage = Running; death = lookup (λ other. other == r) (m.deaths setup); events = 0 })
       0 (m.ranks setup) rank rank nobody ranked (omega arith))
 
   pub opens_at : (rank : ℕ) (local : L) (epoch : Epoch) → rank < m.ranks setup → epoch ≡ first_epoch (m.ranks setup) (m.steps setup) (m.interval setup)

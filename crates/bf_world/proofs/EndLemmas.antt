@@ -33,7 +33,7 @@ use Rattle.bf_core.proofs.DecideLemmas.{decision_wants, ends_memory}
 use Rattle.bf_world.specs.Ends.{NobodyDies}
 use Rattle.bf_world.specs.Messages.{AreQueuesOf}
 use Rattle.bf_world.specs.Queues.{Waiting, no_messages}
-use Rattle.bf_world.specs.Runs.{Run, place, deaths, will_be_filled, opening_run, next_run, is_legal_in, run_from, is_legal_from, run_after, is_journal}
+use Rattle.bf_world.specs.Runs.{Run, place, will_be_filled, opening_run, next_run, is_legal_in, run_from, is_legal_from, run_after, is_journal}
 use Rattle.bf_world.proofs.LawfulLemmas.{IsLawful, core_next, next_lawful, opening_lawful, after_lawful}
 use Rattle.bf_world.proofs.PeaceLemmas.{IsPeaceful, after_peaceful}
 use Rattle.bf_world.proofs.WaitingLemmas.{decided_queues}
@@ -170,7 +170,7 @@ module _ {S L M T R : Type 0} (m : Meanings S L M T R) (good : S → Epoch → �
   unfolding opening_run
   opening_caused = record {
     short = λ rank short. absurd (let e : true ≡ false = sym short
-        ∙ opening_fails is_short refl refl (m.ranks setup) (m.laid setup) (deaths m setup) (m.shift setup) (m.steps setup) (m.interval setup) rank in cc);
+        ∙ opening_fails is_short refl refl (m.ranks setup) (m.laid setup) (m.deaths setup) (m.shift setup) (m.steps setup) (m.interval setup) rank in cc);
     memory = λ ends. absurd (let e : None ≡ Some outcomes.Memory = sym unended ∙ ends in cc);
   }
 

@@ -43,7 +43,7 @@ use Rattle.bf_core.proofs.LawLemmas.{IsSameEpoch, same_epoch, running_where_ripe
 use Rattle.bf_world.proofs.MemberLemmas.{Apart, apart_range, keys_filtered, filter_on, test_of}
 use Rattle.bf_core.proofs.SoundLemmas.{IsSound, IsMoved, moved_stage, first_of_two, acting, in_list, leaving_stage, next_sound, opening_sound, opening_unarrived}
 use Rattle.bf_world.specs.Course.{first_place, after_send, after_receive}
-use Rattle.bf_world.specs.Runs.{Run, place, begun, first_places, last_locals, will_be_filled, run_happened, run_decided, run_settled, next_run, is_legal_in, opening_run, deaths, run_from, is_legal_from, run_after, is_journal}
+use Rattle.bf_world.specs.Runs.{Run, place, begun, first_places, last_locals, will_be_filled, run_happened, run_decided, run_settled, next_run, is_legal_in, opening_run, run_from, is_legal_from, run_after, is_journal}
 use Rattle.bf_world.proofs.PlaceLemmas.{IsPlaced, placed_send, placed_receive, placed_from}
 
 -- the number that there may be
@@ -450,15 +450,15 @@ module _ {S L M T R : Type 0} (m : Meanings S L M T R) (good : S → Epoch → �
   pub opening_lawful : KeepsLimits m setup → IsLawful (opening_run m setup)
   unfolding opening_run opening
   opening_lawful limits = record {
-    steady = begun_steady m good setup (opening (m.ranks setup) (m.laid setup) (deaths m setup) (m.shift setup) (m.steps setup) (m.interval setup)) (m.opening setup) []
+    steady = begun_steady m good setup (opening (m.ranks setup) (m.laid setup) (m.deaths setup) (m.shift setup) (m.steps setup) (m.interval setup)) (m.opening setup) []
         refl refl refl refl (omega arith, target_within (m.steps setup) (m.interval setup) 0) goods.opening (sym stores.opening)
         (λ rank filled arrived. opening_runs rank filled arrived);
-    sound = opening_sound (m.ranks setup) (m.laid setup) (deaths m setup) (m.shift setup) (m.steps setup) (m.interval setup) limits.some_rank;
-    fair = opening_fair (m.ranks setup) (m.laid setup) (deaths m setup) (m.shift setup) (m.steps setup) (m.interval setup);
+    sound = opening_sound (m.ranks setup) (m.laid setup) (m.deaths setup) (m.shift setup) (m.steps setup) (m.interval setup) limits.some_rank;
+    fair = opening_fair (m.ranks setup) (m.laid setup) (m.deaths setup) (m.shift setup) (m.steps setup) (m.interval setup);
   }
     where
-      opening_runs : (rank : ℕ) (filled : Bool) → stage (opening (m.ranks setup) (m.laid setup) (deaths m setup) (m.shift setup) (m.steps setup) (m.interval setup)) rank ≡ Arrived Done filled → ⊥
-      opening_runs rank filled arrived = let e : true ≡ false = sym (ap is_arrived arrived) ∙ opening_unarrived (m.ranks setup) (m.laid setup) (deaths m setup) (m.shift setup) (m.steps setup) (m.interval setup) rank in absurd (cc)
+      opening_runs : (rank : ℕ) (filled : Bool) → stage (opening (m.ranks setup) (m.laid setup) (m.deaths setup) (m.shift setup) (m.steps setup) (m.interval setup)) rank ≡ Arrived Done filled → ⊥
+      opening_runs rank filled arrived = let e : true ≡ false = sym (ap is_arrived arrived) ∙ opening_unarrived (m.ranks setup) (m.laid setup) (m.deaths setup) (m.shift setup) (m.steps setup) (m.interval setup) rank in absurd (cc)
 
   pub from_lawful : (run : Run L T) (journal : List Event) → IsLawful run → is_legal_from m setup run journal ≡ true → IsLawful (run_from m setup run journal)
   from_lawful run [] lawful legal = lawful

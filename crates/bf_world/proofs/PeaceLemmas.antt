@@ -33,7 +33,7 @@ use Rattle.bf_core.proofs.SoundLemmas.{IsSound, first_of_two, acting, active_of,
 use Rattle.bf_core.proofs.ArrivalLemmas.{IsFair, happened_size, happened_fair}
 use Rattle.bf_core.proofs.LawLemmas.{Losses, same_epoch, running_where_ripe, second_of_two, decision_lost, next_settles, next_happens, ripe_decides, unripe_waits}
 use Rattle.bf_world.specs.Ends.{NobodyDies, tells_of_death}
-use Rattle.bf_world.specs.Runs.{Run, place, death_with, deaths, will_be_filled, opening_run, next_run, is_legal_in, run_from, is_legal_from, is_journal}
+use Rattle.bf_world.specs.Runs.{Run, place, will_be_filled, opening_run, next_run, is_legal_in, run_from, is_legal_from, is_journal}
 use Rattle.bf_world.specs.Worlds.{is_restore, brings_decision, brings_restore, restores_from, restores_in}
 use Rattle.bf_world.proofs.LawfulLemmas.{IsLawful, core_next, next_lawful, opening_lawful}
 use Rattle.bf_world.proofs.WaitingLemmas.{member_below}
@@ -231,30 +231,22 @@ module _ (losses : Losses) (state : State) (event : Event) (place : Place) (fill
       by_made Restore restores true ripe_then = absurd (never_restores (ripe_then refl) restores)
       by_made Restore restores false _ = refl
 
-no_deaths : {S L M T R : Type 0} (m : Meanings S L M T R) (setup : S) (k n : ℕ) → ((rank : ℕ) → rank < k + n → m.death setup rank ≡ None)
-    → flat_map (λ rank. death_with rank (m.death setup rank)) (range_with_len k n) ≡ []
-no_deaths m setup k zero none = refl
-no_deaths m setup k (suc n) none = rw (none k (omega arith)) (no_deaths m setup (k + 1) n (λ rank below. none rank (omega arith)))
-
 opening_peaceful : {S L M T R : Type 0} (m : Meanings S L M T R) (setup : S) → NobodyDies m setup → IsPeaceful (opening_run {T = T} m setup).core
-unfolding opening_run opening deaths
+unfolding opening_run opening
 opening_peaceful m setup nobody_dies = record {
   fated = λ rank. elim (cases_lt rank (m.ranks setup)) [
-    | inl within ↦ ap (λ s. s.death) (get_or-map-range_with_len {X = Standing} (λ r. record { stage = Running; death = lookup (λ other. other == r) (deaths m setup); events = 0 })
-        0 (m.ranks setup) rank rank nobody within (omega arith)) ∙ ap (λ ds. lookup (λ other. other == rank) ds) none
+    | inl within ↦ ap (λ s. s.death) (get_or-map-range_with_len {X = Standing} (λ r. record { stage = Running; death = lookup (λ other. other == r) (m.deaths setup); events = 0 })
+        0 (m.ranks setup) rank rank nobody within (omega arith)) ∙ ap (λ ds. lookup (λ other. other == rank) ds) nobody_dies
     | inr past ↦ ap (λ s. s.death) (get_or_past {X = Standing}
-        (map {B = Standing} (λ r. record { stage = Running; death = lookup (λ other. other == r) (deaths m setup); events = 0 }) (range_with_len 0 (m.ranks setup))) rank nobody
-        (omega (arith, past, length-map-range_with_len {X = Standing} (λ r. record { stage = Running; death = lookup (λ other. other == r) (deaths m setup); events = 0 }) 0 (m.ranks setup))))
+        (map {B = Standing} (λ r. record { stage = Running; death = lookup (λ other. other == r) (m.deaths setup); events = 0 }) (range_with_len 0 (m.ranks setup))) rank nobody
+        (omega (arith, past, length-map-range_with_len {X = Standing} (λ r. record { stage = Running; death = lookup (λ other. other == r) (m.deaths setup); events = 0 }) 0 (m.ranks setup))))
   ];
-  alive = λ rank within. ap (λ s. lives s.stage) (get_or-map-range_with_len {X = Standing} (λ r. record { stage = Running; death = lookup (λ other. other == r) (deaths m setup); events = 0 })
+  alive = λ rank within. ap (λ s. lives s.stage) (get_or-map-range_with_len {X = Standing} (λ r. record { stage = Running; death = lookup (λ other. other == r) (m.deaths setup); events = 0 })
       0 (m.ranks setup) rank rank nobody
-      (omega (arith, within, length-map-range_with_len {X = Standing} (λ r. record { stage = Running; death = lookup (λ other. other == r) (deaths m setup); events = 0 }) 0 (m.ranks setup))) (omega arith));
+      (omega (arith, within, length-map-range_with_len {X = Standing} (λ r. record { stage = Running; death = lookup (λ other. other == r) (m.deaths setup); events = 0 }) 0 (m.ranks setup))) (omega arith));
   homes = refl;
   unlost = λ time home buddy ends. absurd (cc);
 }
-  where
-    none : deaths m setup ≡ []
-    none = no_deaths m setup 0 (m.ranks setup) (λ rank within. nobody_dies rank (omega (arith, within)))
 
 module _ {S L M T R : Type 0} (m : Meanings S L M T R) (good : S → Epoch → ℕ → List L → Type 0) (setup : S)
     (goods : KeepsGood m good setup) (stores : KeepsStored m good setup) (losses : Losses) where

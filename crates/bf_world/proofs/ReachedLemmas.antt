@@ -9,7 +9,7 @@ use Rattle.bf_core.specs.Journals.{Move, after, are_legal}
 use Rattle.bf_core.specs.Orders.{IsReached}
 use Rattle.bf_core.proofs.SoundLemmas.{first_of_two}
 use Rattle.bf_core.proofs.LawLemmas.{second_of_two}
-use Rattle.bf_world.specs.Runs.{Run, place, deaths, will_be_filled, opening_run, next_run, is_legal_in, run_from, is_legal_from, run_after, is_journal}
+use Rattle.bf_world.specs.Runs.{Run, place, will_be_filled, opening_run, next_run, is_legal_in, run_from, is_legal_from, run_after, is_journal}
 use Rattle.bf_world.proofs.LawfulLemmas.{core_next}
 use Rattle.bf_world.proofs.WorldLemmas.{and_both}
 
@@ -43,7 +43,7 @@ module _ {S L M T R : Type 0} (m : Meanings S L M T R) (good : S → Epoch → �
   after_reached limits journal legal = record {
     ranks = m.ranks setup;
     filled = m.laid setup;
-    deaths = deaths m setup;
+    deaths = m.deaths setup;
     shift = m.shift setup;
     steps = m.steps setup;
     interval = m.interval setup;

@@ -29,7 +29,7 @@ use Rattle.bf_core.proofs.SoundLemmas.{IsMoved, is_open, moved_stage, same_tests
 use Rattle.bf_core.proofs.LawLemmas.{IsStep, step_of, IsSameEpoch, same_epoch, running_where_ripe, commit_needs_members, second_of_two}
 use Rattle.bf_world.specs.Course.{local_at}
 use Rattle.bf_world.specs.Results.{parcels_of}
-use Rattle.bf_world.specs.Runs.{Run, place, begun, deaths, last_locals, will_be_filled, parcel_with, parcel_of, run_happened, run_decided, run_settled, next_run, is_legal_in, opening_run, run_from, is_legal_from, run_after, is_journal}
+use Rattle.bf_world.specs.Runs.{Run, place, begun, last_locals, will_be_filled, parcel_with, parcel_of, run_happened, run_decided, run_settled, next_run, is_legal_in, opening_run, run_from, is_legal_from, run_after, is_journal}
 use Rattle.bf_world.proofs.MemberLemmas.{Apart, apart_range}
 use Rattle.bf_world.proofs.OnceLemmas.{member_more, apart_more, member_without, apart_without, none_listed, same_gifts, gifts_of_seats}
 use Rattle.bf_core.proofs.ListLemmas.{in_filtered}
@@ -450,7 +450,7 @@ module _ {S L M T R : Type 0} (m : Meanings S L M T R) (good : S → Epoch → �
     arrivals = [];
     apart = tt;
     who = λ r. sym (ap (λ b. b && ((opening_run m setup).core.epoch.target == (opening_run m setup).core.steps))
-        (opening_fails has_finished_rounds refl refl (m.ranks setup) (m.laid setup) (deaths m setup) (m.shift setup) (m.steps setup) (m.interval setup) r));
+        (opening_fails has_finished_rounds refl refl (m.ranks setup) (m.laid setup) (m.deaths setup) (m.shift setup) (m.steps setup) (m.interval setup) r));
     parcels_are = refl;
   })
 

@@ -17,7 +17,7 @@ use Rattle.bf_core.specs.Legal.{actor}
 use Rattle.bf_core.specs.Next.{may_decide, is_ripe, decision}
 use Rattle.bf_core.proofs.RoomLemmas.{events_grow, queues_grow}
 use Rattle.bf_core.proofs.StageLemmas.{nobody}
-use Rattle.bf_world.specs.Runs.{Run, deaths, will_be_filled, run_happened, run_decided, opening_run, next_run, is_legal_in, run_from, is_legal_from, run_after, is_journal}
+use Rattle.bf_world.specs.Runs.{Run, will_be_filled, run_happened, run_decided, opening_run, next_run, is_legal_in, run_from, is_legal_from, run_after, is_journal}
 use Rattle.bf_world.specs.Worlds.{brings_restore, restores_from, restores_in}
 use Rattle.bf_world.proofs.LawfulLemmas.{core_next}
 
@@ -66,11 +66,11 @@ module _ {S L M T R : Type 0} (m : Meanings S L M T R) (setup : S) where
   no_events : (rank : ℕ) → (standing (opening_run m setup).core rank).events ≡ 0
   unfolding opening_run opening
   no_events rank = elim (cases_lt rank (m.ranks setup)) [
-    | inl within ↦ ap (λ s. s.events) (get_or-map-range_with_len {X = Standing} (λ r. record { stage = Running; death = lookup (λ other. other == r) (deaths m setup); events = 0 })
+    | inl within ↦ ap (λ s. s.events) (get_or-map-range_with_len {X = Standing} (λ r. record { stage = Running; death = lookup (λ other. other == r) (m.deaths setup); events = 0 })
         0 (m.ranks setup) rank rank nobody within (omega arith))
     | inr past ↦ ap (λ s. s.events) (get_or_past {X = Standing}
-        (map {B = Standing} (λ r. record { stage = Running; death = lookup (λ other. other == r) (deaths m setup); events = 0 }) (range_with_len 0 (m.ranks setup))) rank nobody
-        (omega (arith, past, length-map-range_with_len {X = Standing} (λ r. record { stage = Running; death = lookup (λ other. other == r) (deaths m setup); events = 0 }) 0 (m.ranks setup))))
+        (map {B = Standing} (λ r. record { stage = Running; death = lookup (λ other. other == r) (m.deaths setup); events = 0 }) (range_with_len 0 (m.ranks setup))) rank nobody
+        (omega (arith, past, length-map-range_with_len {X = Standing} (λ r. record { stage = Running; death = lookup (λ other. other == r) (m.deaths setup); events = 0 }) 0 (m.ranks setup))))
   ]
 
   nothing_waits : (place : ℕ) → get_or (opening_run m setup).core.queues place 0 ≡ 0

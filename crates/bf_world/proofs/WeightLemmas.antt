@@ -39,7 +39,7 @@ use Rattle.bf_core.proofs.SoundLemmas.{IsSound, first_of_two, acting, in_list, l
 use Rattle.bf_core.proofs.ArrivalLemmas.{IsFair, is_broken, has_ended, happened_fair}
 use Rattle.bf_core.proofs.LawLemmas.{IsStep, step_of, IsSameEpoch, same_epoch, running_where_ripe, second_of_two, next_settles, next_happens, ripe_decides, unripe_waits}
 use Rattle.bf_world.specs.Course.{peers_at, place_with, place_from, after_send, after_receive}
-use Rattle.bf_world.specs.Runs.{Run, place, begun, last_locals, deaths, opening_run, will_be_filled, run_happened, run_decided, run_settled, next_run, is_legal_in, run_from, is_legal_from, run_after, is_journal}
+use Rattle.bf_world.specs.Runs.{Run, place, begun, last_locals, opening_run, will_be_filled, run_happened, run_decided, run_settled, next_run, is_legal_in, run_from, is_legal_from, run_after, is_journal}
 use Rattle.bf_world.specs.Worlds.{is_restore, brings_decision, brings_restore, restores_from, restores_in}
 use Rattle.bf_world.proofs.StopLemmas.{no_restore}
 use Rattle.bf_world.specs.Weights.{peers_left, steps_left, intervals_in, left_of, epochs_left, most_left, left_of_rank, total, bound, weight_within, weight, most_events}
@@ -700,7 +700,7 @@ module _ {S L M T R : Type 0} (m : Meanings S L M T R) (good : S → Epoch → �
 
   opening_run_timed : IsTimed (opening_run m setup).core
   unfolding opening_run
-  opening_run_timed = opening_timed (m.ranks setup) (m.laid setup) (deaths m setup) (m.shift setup) (m.steps setup) (m.interval setup)
+  opening_run_timed = opening_timed (m.ranks setup) (m.laid setup) (m.deaths setup) (m.shift setup) (m.steps setup) (m.interval setup)
 
   pub after_timed : (journal : List Event) → IsTimed (run_after m setup journal).core
   unfolding run_after

@@ -1,13 +1,13 @@
 -- What is said of how runs end.
-use Rattle.std.specs.Prelude.{◌≡◌, ℕ, ◌<◌, Bool, true, false, None}
+use Rattle.std.specs.Prelude.{◌≡◌, Bool, true, false, []}
 use Rattle.bf_program.specs.Meanings.{Meanings}
 use Rattle.bf_core.specs.declared.event.Event.{Event}
 use Rattle.bf_core.specs.declared.event.Event.TheVariants.{Send, Recv, Arrive, Leave, Die}
 use Rattle.bf_core.specs.declared.event.How.TheVariants.{Broken}
 
--- no rank is scheduled to die
+-- no rank is to die
 abbrev pub NobodyDies : {S L M T R : Type 0} → Meanings S L M T R → S → Type 0
-NobodyDies m setup = (rank : ℕ) → rank < m.ranks setup → m.death setup rank ≡ None
+NobodyDies m setup = m.deaths setup ≡ []
 
 -- whether an event tells of a death: it is one, or an arrival that is broken by one
 abbrev pub tells_of_death : Event → Bool

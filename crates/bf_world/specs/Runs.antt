@@ -1,6 +1,6 @@
 -- The whole state of a run, as its journal tells it.
 use Rattle.std.specs.Prelude.{ℕ, Bool, true, false, ◌&&◌, not, ◌==◌, if◌then◌else◌, List, [], ◌∷◌, ◌++◌, map, filter, slice_index_or, slice_set, Option, Some, None}
-use Rattle.std.specs.List.{range_with_len, flat_map}
+use Rattle.std.specs.List.{range_with_len}
 use Rattle.bf_program.specs.declared.epoch.Epoch.{Epoch}
 use Rattle.bf_program.specs.Meanings.{Meanings}
 use Rattle.bf_program.specs.Lockstep.{lockstep}
@@ -36,16 +36,7 @@ abbrev pub round_of : Place → ℕ
 round_of (Rounds round sent received peers) = round
 round_of Past = 0
 
--- the scheduled death of a rank, if there is one
-abbrev pub death_with : (rank : ℕ) → Option ℕ → List (ℕ × ℕ)
-death_with rank (Some events) = (rank, events) ∷ []
-death_with rank None = []
-
 module _ {S L M T R : Type 0} (m : Meanings S L M T R) (setup : S) where
-  -- the ranks that are scheduled to die, with the number of events after which each dies
-  unfoldable pub deaths : List (ℕ × ℕ)
-  deaths = flat_map (λ rank. death_with rank (m.death setup rank)) (range_with_len 0 (m.ranks setup))
-
   -- the places at which the ranks begin an epoch
   unfoldable pub first_places : Epoch → (start : List L) → List Place
   first_places epoch start = map (first_place m setup epoch start) (range_with_len 0 (m.ranks setup))
@@ -56,7 +47,7 @@ module _ {S L M T R : Type 0} (m : Meanings S L M T R) (setup : S) where
 
   -- the run at its opening
   unfoldable pub opening_run : Run L T
-  opening_run = begun (opening (m.ranks setup) (m.laid setup) deaths (m.shift setup) (m.steps setup) (m.interval setup)) (m.opening setup) []
+  opening_run = begun (opening (m.ranks setup) (m.laid setup) (m.deaths setup) (m.shift setup) (m.steps setup) (m.interval setup)) (m.opening setup) []
 
   -- the members' locals once all rounds of the epoch are done
   unfoldable pub last_locals : Run L T → List L

@@ -3,7 +3,6 @@ ghost use Rattle.bf_core.specs.Stages.{is_arrived};
 ghost use Rattle.bf_core.specs.States.{stage, standing, queue};
 ghost use Rattle.bf_core.specs.Legal.{actor, IsLegalSomewhere};
 ghost use Rattle.bf_core.specs.Next.{next};
-ghost use Rattle.bf_world.specs.Runs.{deaths};
 ghost use Rattle.bf_world.specs.Settled.{is_decided, is_restored, waiting_settled, parcels_settled, restores_settled, given};
 
 use crate::journal::Journal;
@@ -11,22 +10,6 @@ use crate::queues::Queues;
 use bf_core::{CoreState, Event, Stage};
 use bf_program::{Kept, Memory, RankProgram};
 use std::alloc::Global;
-
-/// The scheduled deaths: ranks, each with the number of events after which it dies.
-pub(crate) fn scheduled<P: RankProgram>(
-    alloc: Global,
-    setup: &P::Setup,
-) -> Result<Vec<(u32, u32)>, Memory>
-    ensures { IfOk result (λ dies. dies.items ≡ deaths P.meanings setup.now) }
-{
-    let mut dies = Vec::new(alloc);
-    for rank in 0..P::ranks(setup) {
-        if let Some(events) = P::dies(setup, rank) {
-            dies.push((rank, events))?;
-        }
-    }
-    Ok(dies)
-}
 
 /// How many events the journal has memory for once it has room for one more than may have to follow.
 pub(crate) fn room_for<M: Drop>(queues: &Queues<M>) -> usize

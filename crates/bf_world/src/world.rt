@@ -9,7 +9,7 @@ ghost use Rattle.bf_world.specs.Worlds.{IsView, core_after, restores_in, SendsNe
 
 use crate::journal::Journal;
 use crate::queues::Queues;
-use crate::steps::{forget, give, room_for, scheduled, settle, step};
+use crate::steps::{forget, give, room_for, settle, step};
 use crate::{Arrival, Got, Left};
 use bf_buddy::Members;
 use bf_core::{CoreState, Event, How, Outcome};
@@ -50,12 +50,11 @@ impl<P: RankProgram> World<P> {
         ensures parcels { IfOk result (λ world. world.parcels ≡ []) }
     {
         let ranks = P::ranks(&setup);
-        let dies = scheduled::<P>(alloc, &setup)?;
         let core = CoreState::begin(
             alloc,
             ranks,
             filled,
-            dies.as_slice(),
+            P::dies(&setup),
             P::shift(&setup),
             P::steps(&setup),
             P::snapshot(&setup),
