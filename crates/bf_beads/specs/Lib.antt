@@ -1,4 +1,3 @@
-pub mod Deaths
 pub mod Row
 pub mod Stages
 pub mod Locals

@@ -1,5 +1,5 @@
 -- What the calls of the program mean.
-use Rattle.std.specs.Prelude.{ℕ, ◌%◌, ◌^◌, ◌==◌, nat_lt, length, List, [], map, filter}
+use Rattle.std.specs.Prelude.{ℕ, ◌%◌, ◌^◌, ◌==◌, nat_lt, length, List, [], map, filter, take}
 use Rattle.std.specs.List.{range_with_len}
 use Rattle.bf_program.specs.Meanings.{Meanings, Regions}
 use Rattle.bf_parts.specs.declared.side.Side.{Side}
@@ -11,7 +11,6 @@ use Rattle.bf_beads.specs.declared.bead.Bead.{Bead}
 use Rattle.bf_beads.specs.declared.local.BeadLocal.{BeadLocal}
 use Rattle.bf_beads.specs.declared.message.BeadMessage.{BeadMessage}
 use Rattle.bf_beads.specs.declared.setup.BeadSetup.{BeadSetup}
-use Rattle.bf_beads.specs.Deaths.{death_of}
 use Rattle.bf_beads.specs.Locals.{moved_in, beads_in, view_in, local_with}
 use Rattle.bf_beads.specs.Rounds.{play_of}
 use Rattle.bf_beads.specs.Row.{beads_at, bead_kind, home_in, numbers_of, total}
@@ -33,7 +32,7 @@ beads = record {
   steps = λ setup. setup.steps;
   shift = λ setup. setup.shift;
   interval = λ setup. setup.interval;
-  death = λ setup rank. death_of setup.deaths rank;
+  deaths = λ setup. take setup.dying setup.deaths;
   rounds = λ setup epoch. rounds_of epoch;
   peers = λ setup local epoch round. (play_of setup.shift epoch (stage_of epoch round)).peers epoch.members local;
   out = λ setup local epoch round to. (play_of setup.shift epoch (stage_of epoch round)).out local to;

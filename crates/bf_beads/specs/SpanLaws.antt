@@ -107,6 +107,8 @@ limits setup = record {
   some_interval = setup.some_interval;
   interval = setup.interval_fits;
   rounds = λ epoch. let many = stages_many epoch.time (span epoch) in omega (arith, many);
+  deaths = setup.deaths_below;
+  rising_deaths = setup.deaths_rise;
 }
 
 pub has_pieces : (setup : BeadSetup) → HasPieces beads staging bead_kind setup pieces (λ (bead : Bead). bead.number) (λ local. [])

@@ -61,8 +61,8 @@ impl RankProgram for Beads {
         target_of(setup.steps(), setup.interval(), time)
     }
 
-    fn dies(setup: &BeadSetup, rank: u32) -> Option<u32> {
-        setup.death(rank)
+    fn dies(setup: &BeadSetup) -> &[(u32, u32)] {
+        setup.dies()
     }
 
     fn rounds(setup: &BeadSetup, epoch: Epoch) -> u32 {

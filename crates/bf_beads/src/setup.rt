@@ -1,5 +1,5 @@
-ghost use Rattle.std.specs.Prelude.{◌≡◌, ◌≤◌};
-ghost use Rattle.bf_beads.specs.Deaths.{death_of};
+ghost use Rattle.std.specs.Prelude.{◌≡◌, ◌≤◌, ◌<◌, ℕ, All, length, map, take};
+ghost use Rattle.std.specs.List.Sorted.{IsStrictlyIncreasing};
 
 /// A run's case.
 #[derive(Clone, Copy)]
@@ -9,7 +9,9 @@ pub struct BeadSetup {
     steps: u32,
     interval: u32,
     shift: u32,
-    deaths: [Option<u32>; 32],
+    // the first of these are the ranks that die, rising, and how many events each has by then
+    deaths: [(u32, u32); 32],
+    dying: usize,
     pub ghost some_rank: { 1 ≤ ranks },
     pub ghost ranks_fit: { ranks ≤ 32 },
     pub ghost beads_fit: { beads ≤ 32 },
@@ -17,17 +19,20 @@ pub struct BeadSetup {
     pub ghost shift_fits: { shift ≤ 1000 },
     pub ghost some_interval: { 1 ≤ interval },
     pub ghost interval_fits: { interval ≤ 128 },
+    pub ghost dying_fit: { dying ≤ 32 },
+    pub ghost deaths_below: { All (λ (death : ℕ × ℕ). death.0 < ranks) (take dying deaths) },
+    pub ghost deaths_rise: { IsStrictlyIncreasing (map (λ (death : ℕ × ℕ). death.0) (take dying deaths)) },
 }
 
 impl BeadSetup {
-    /// A case, with the number of events after which each rank dies.
+    /// A case, with the ranks that die, rising, and how many events each has by then.
     pub fn new(
         ranks: u32,
         beads: u32,
         steps: u32,
         interval: u32,
         shift: u32,
-        deaths: [Option<u32>; 32],
+        deaths: &[(u32, u32)],
     ) -> Self
         requires some_rank { 1 ≤ ranks }
         requires ranks_fit { ranks ≤ 32 }
@@ -36,20 +41,26 @@ impl BeadSetup {
         requires shift_fits { shift ≤ 1000 }
         requires some_interval { 1 ≤ interval }
         requires interval_fits { interval ≤ 128 }
+        requires dying_fit { length deaths.now ≤ 32 }
+        requires deaths_below { All (λ death. death.0 < ranks) deaths.now }
+        requires deaths_rise { IsStrictlyIncreasing (map (λ death. death.0) deaths.now) }
         ensures ranks { result.ranks ≡ ranks }
         ensures beads { result.beads ≡ beads }
         ensures steps { result.steps ≡ steps }
         ensures interval { result.interval ≡ interval }
         ensures shift { result.shift ≡ shift }
-        ensures deaths { result.deaths ≡ deaths }
+        ensures deaths { take result.dying result.deaths ≡ deaths.now }
     {
+        let mut table = [(0, 0); 32];
+        table[..deaths.len()].copy_from_slice(deaths);
         BeadSetup {
             ranks,
             beads,
             steps,
             interval,
             shift,
-            deaths,
+            deaths: table,
+            dying: deaths.len(),
         }
     }
 
@@ -90,14 +101,10 @@ impl BeadSetup {
         self.shift
     }
 
-    /// After how many events a rank dies, if it is to die.
-    pub fn death(&self, rank: u32) -> Option<u32>
-        ensures { result ≡ death_of self.now.deaths rank }
+    /// The ranks that die, rising, and how many events each has by then.
+    pub fn dies(&self) -> &[(u32, u32)]
+        ensures { result.now ≡ take self.now.dying self.now.deaths }
     {
-        if rank < 32 {
-            self.deaths[rank as usize]
-        } else {
-            None
-        }
+        &self.deaths[..self.dying]
     }
 }

@@ -15,9 +15,7 @@ use std::test::Fail;
 fn setup() -> BeadSetup
     ensures { result.ranks ≡ 3 }
 {
-    let mut deaths = [None; 32];
-    deaths[1] = Some(9);
-    BeadSetup::new(3, 4, 2, 1, 0, deaths)
+    BeadSetup::new(3, 4, 2, 1, 0, &[(1, 9)])
 }
 
 #[derive(Drop)]
@@ -38,7 +36,7 @@ fn opened_three(alloc: Global) -> Result<Three, Memory> {
 
 // The first of five ranks with a bead each.
 fn first_of_five(alloc: Global) -> Result<BeadLocal, Memory> {
-    let five = BeadSetup::new(5, 5, 2, 1, 0, [None; 32]);
+    let five = BeadSetup::new(5, 5, 2, 1, 0, &[]);
     opened(alloc, &five, 0)
 }
 

@@ -5,7 +5,7 @@ use Rattle.std.specs.List.{count_by, range_with_len}
 use Rattle.std.proofs.lemmas.Bool.{and_parts}
 use Rattle.std.proofs.lemmas.Bool.Decides.{nat_tests}
 use Rattle.std.proofs.lemmas.List.{append-nil}
-use Rattle.std.proofs.lemmas.List.Elements.{All-nil, All-cons}
+use Rattle.std.proofs.lemmas.List.Elements.{All-nil, All-cons, All-weaker}
 use Rattle.bf_buddy.specs.Buddy.{predecessor_of}
 use Rattle.bf_program.specs.declared.epoch.Epoch.{Epoch}
 use Rattle.bf_program.specs.Epochs.{target_of}
@@ -15,7 +15,7 @@ use Rattle.bf_id.specs.Cube.{Voxel, holds}
 use Rattle.bf_id.specs.Id.{BlockId}
 use Rattle.bf_id.specs.Shape.{InDomain, root_edge}
 use Rattle.bf_case.specs.declared.case.Case.{Case}
-use Rattle.bf_case.specs.Case.{IsScheduled, IsValid}
+use Rattle.bf_case.specs.Case.{IsScheduled, IsDeath, IsValid}
 use Rattle.bf_block.specs.declared.setup.Setup.{Setup}
 use Rattle.bf_block.specs.Kinds.{block_kind}
 use Rattle.bf_block.specs.Runs.{CanRun}
@@ -203,7 +203,8 @@ few_rounds epoch = at_most (epoch.target - epoch.time)
 
 limits : (setup : Setup) → KeepsLimits forest setup
 limits setup =
-    let scheduled : IsScheduled (case_of setup) = (every_setup_runs setup).valid.scheduled in
+    let valid : IsValid (case_of setup) = (every_setup_runs setup).valid in
+    let scheduled : IsScheduled (case_of setup) = valid.scheduled in
     record {
       some_rank = scheduled.some_ranks;
       ranks = omega (arith, scheduled.few_ranks);
@@ -212,6 +213,8 @@ limits setup =
       some_interval = scheduled.some_snapshot;
       interval = scheduled.short_snapshot;
       rounds = λ epoch. few_rounds epoch;
+      deaths = All-weaker {X = ℕ × ℕ} (IsDeath (case_of setup).ranks) (λ death. death.0 < (case_of setup).ranks) (λ death dies. dies.0) (case_of setup).dies valid.deaths;
+      rising_deaths = valid.rising_deaths;
     }
 
 pub lawful_forest : (setup : Setup) → Laws forest pieces IsGood setup

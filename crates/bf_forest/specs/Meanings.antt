@@ -1,7 +1,6 @@
 -- What the calls of the forest's rank program mean.
 use Rattle.std.specs.Prelude.{ℕ, ◌*◌, ◌%◌, ◌^◌, ◌==◌, nat_lt, Bool, ◌&&◌, List, [], ◌++◌, length, sum, map, filter, if◌then◌else◌, Option, Some, None}
 use Rattle.std.specs.List.{range_with_len, sum_by}
-use Rattle.std.specs.Map.{lookup}
 use Rattle.bf_buddy.specs.Buddy.{predecessor_of}
 use Rattle.bf_buddy.specs.Members.{without}
 use Rattle.bf_program.specs.declared.epoch.Epoch.{Epoch}
@@ -37,10 +36,6 @@ view_of local = record { rank = local.rank; items = local.blocks; active = local
 -- the local that has so much and has heard these blocks
 abbrev pub with_heard : View BlockValue → (heard : List BlockValue) → ForestLocal
 with_heard view heard = record { rank = view.rank; blocks = view.items; heard = heard; active = view.active; spare = view.spare }
-
--- after how many events a rank dies, if it is to die
-abbrev pub death_of : List (ℕ × ℕ) → (rank : ℕ) → Option ℕ
-death_of deaths rank = lookup (λ dying. dying == rank) deaths
 
 -- the message to a peer: copies of all blocks, or the part of the new snapshot for the buddy
 unfoldable pub told : Stage → (members : List ℕ) → (shift : ℕ) → ForestLocal → (to : ℕ) → ForestMessage
@@ -122,7 +117,7 @@ forest = record {
   steps = λ setup. (case_of setup).steps;
   shift = λ setup. (case_of setup).shift;
   interval = λ setup. (case_of setup).snapshot;
-  death = λ setup rank. death_of (case_of setup).dies rank;
+  deaths = λ setup. (case_of setup).dies;
   rounds = λ setup epoch. rounds_of epoch;
   peers = λ setup local epoch round. without epoch.members local.rank;
   out = λ setup local epoch round to. (local, told (stage_of epoch round) epoch.members (case_of setup).shift local to);

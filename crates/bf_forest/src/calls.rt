@@ -1,6 +1,6 @@
 ghost use Rattle.std.specs.Prelude.{◌≡◌, IfOk, OnOk};
 ghost use Rattle.bf_block.specs.Setup.{case_of};
-ghost use Rattle.bf_forest.specs.Meanings.{death_of, told, heard_of, ended, restored};
+ghost use Rattle.bf_forest.specs.Meanings.{told, heard_of, ended, restored};
 
 use crate::blocks::copies;
 use crate::{ForestLocal, ForestMessage, Stage};
@@ -9,18 +9,6 @@ use bf_buddy::Members;
 use bf_parts::{append, gives, regained, source_of};
 use bf_program::Epoch;
 use std::alloc::Global;
-
-/// After how many events a rank dies, if it is to die.
-pub fn death_of(deaths: &[(u32, u32)], rank: u32) -> Option<u32>
-    ensures { result ≡ death_of deaths.now rank }
-{
-    for death in deaths {
-        if death.0 == rank {
-            return Some(death.1);
-        }
-    }
-    None
-}
 
 /// The message to a peer: copies of all blocks, or the part of the new snapshot for the buddy.
 #[tactic(auto, unfolding(crate::specs::Meanings::told))]

@@ -1,5 +1,5 @@
 use crate::blocks::measured;
-use crate::calls::{death_of, go_back, hear, snap, told};
+use crate::calls::{go_back, hear, snap, told};
 use crate::stage::{rounds, stage_of};
 use crate::step::step;
 use crate::{ForestLocal, ForestMessage, Stage};
@@ -61,8 +61,8 @@ impl RankProgram for Forest {
         target_of(setup.steps(), setup.snapshot(), time)
     }
 
-    fn dies(setup: &Setup, rank: u32) -> Option<u32> {
-        death_of(setup.dies(), rank)
+    fn dies(setup: &Setup) -> &[(u32, u32)] {
+        setup.dies()
     }
 
     fn rounds(setup: &Setup, epoch: Epoch) -> u32 {

@@ -199,7 +199,6 @@ fn a_setup_tells_what_the_ranks_do(rt: HostRuntime) -> Result<(), Fail> {
     assert_eq!(rt; Forest::snapshot(&setup), 1);
     assert_eq!(rt; Forest::target(&setup, 1), 2);
     assert_eq!(rt; Forest::rounds(&setup, first_epoch()), 2);
-    assert_eq!(rt; Forest::dies(&setup, 0), None);
-    assert_eq!(rt; Forest::dies(&setup, 1), Some(17));
+    assert_eq!(rt; Forest::dies(&setup), [(1, 17)].as_slice());
     Ok(())
 }

@@ -1,40 +1,19 @@
 -- Where nothing is lost, each stored part has one heir.
-use Rattle.std.proofs.Common.{◌≡◌, ℕ, suc, Bool, true, false, ◌&&◌, ◌||◌, cond, IsTrue, List, [], ◌∷◌, filter, length, arith, refl, sym, ◌∙◌, ap}
-use Rattle.std.specs.Prelude.{◌==◌, ◌↔◌, Some, None, if◌then◌else◌, All}
-use Rattle.std.proofs.lemmas.Bool.{eqb-true, eq-eqb}
+use Rattle.std.proofs.Common.{◌≡◌, ℕ, Bool, true, false, ◌||◌, cond, IsTrue, List, [], ◌∷◌, filter, length, arith, refl, sym, ◌∙◌}
+use Rattle.std.specs.Prelude.{◌==◌, ◌↔◌, Some, None, if◌then◌else◌}
+use Rattle.std.proofs.lemmas.Bool.{and_from, and_parts, eqb-true, eq-eqb}
 use Rattle.bf_buddy.specs.Members.{is_member}
 use Rattle.bf_buddy.specs.Buddy.{buddy_of}
 use Rattle.bf_buddy.specs.Losses.{first_lost_of, LosesNothing}
+use Rattle.bf_buddy.proofs.MemberLemmas.{all_member, member_filter_parts}
 use Rattle.bf_program.specs.declared.epoch.Epoch.{Epoch}
 use Rattle.bf_program.specs.Meanings.{Meanings}
 use Rattle.bf_program.specs.Lockstep.{local_of}
 use Rattle.bf_program.specs.Restores.{heir_of, IsGivenOnce}
 use Rattle.bf_program.specs.Laws.{KeepsGood, KeepsStored, KeepsParts}
 
--- who passes a test among members is a member and passes it
-passed : (test : ℕ → Bool) (xs : List ℕ) (x : ℕ) → is_member (filter test xs) x ≡ true → (test x ≡ true) × (is_member xs x ≡ true)
-passed test [] x is_in = absurd (cc)
-passed test (y ∷ ys) x is_in = at_first (passed test ys x) (test y) refl is_in
-  where
-    in_rest : (a b : Bool) → b ≡ true → (a || b) ≡ true
-    in_rest true b is_later = refl
-    in_rest false b is_later = is_later
-
-    later : (test x ≡ true) × (is_member ys x ≡ true) → (test x ≡ true) × (is_member (y ∷ ys) x ≡ true)
-    later found = (found.0, in_rest (y == x) _ found.1)
-
-    here : ((is_member (filter test ys) x ≡ true) → (test x ≡ true) × (is_member ys x ≡ true)) → (b : Bool) → (y == x) ≡ b → test y ≡ true
-        → (b || is_member (filter test ys) x) ≡ true → (test x ≡ true) × ((b || is_member ys x) ≡ true)
-    here rest true same passes is_now = (ap test (sym (eqb-true y x same)) ∙ passes, refl)
-    here rest false other passes is_now = rest is_now
-
-    at_first : ((is_member (filter test ys) x ≡ true) → (test x ≡ true) × (is_member ys x ≡ true)) → (b : Bool) → test y ≡ b
-        → is_member (cond b (y ∷ filter test ys) (filter test ys)) x ≡ true → (test x ≡ true) × (is_member (y ∷ ys) x ≡ true)
-    at_first rest true passes is_now = here rest (y == x) refl passes is_now
-    at_first rest false fails is_now = later (rest is_now)
-
 -- a member has a local, where there is one for each
-has_local : {L : Type 0} (members : List ℕ) (locals : List L) (rank : ℕ) → is_member members rank ≡ true → length locals ≡ length members
+pub has_local : {L : Type 0} (members : List ℕ) (locals : List L) (rank : ℕ) → is_member members rank ≡ true → length locals ≡ length members
     → (local : L) × (local_of members locals rank ≡ Some local)
 has_local [] locals rank member each = absurd (cc)
 has_local (x ∷ xs) [] rank member each = absurd (omega arith)
@@ -55,23 +34,6 @@ heir_lives homes live shift home held = at_home (is_member live home) refl held
     at_home true lives _ = lives
     at_home false dead buddy = buddy
 
-both : (a b : Bool) → a ≡ true → b ≡ true → (a && b) ≡ true
-both true b is_a is_b = is_b
-both false b is_a is_b = absurd (cc)
-
-second : (a b : Bool) → (a && b) ≡ true → b ≡ true
-second true b holds = holds
-second false b holds = absurd (cc)
-
--- a test that holds of all members holds of one
-all_hold : (test : ℕ → Bool) (xs : List ℕ) (x : ℕ) → All (λ y. IsTrue (test y)) xs → is_member xs x ≡ true → test x ≡ true
-all_hold test [] x holds is_in = absurd (cc)
-all_hold test (y ∷ ys) x holds is_in = at_first (λ later. all_hold test ys x (λ k d within. holds (suc k) d (omega arith)) later) (y == x) refl is_in
-  where
-    at_first : (is_member ys x ≡ true → test x ≡ true) → (b : Bool) → (y == x) ≡ b → (b || is_member ys x) ≡ true → test x ≡ true
-    at_first rest true same _ = ap test (sym (eqb-true y x same)) ∙ holds 0 0 (omega arith)
-    at_first rest false other later = rest later
-
 module _ {S L M T R : Type 0} (m : Meanings S L M T R) (good : S → Epoch → ℕ → List L → Type 0) (setup : S) where
   -- one live member is given a part whose heir lives
   given_once : KeepsGood m good setup → KeepsStored m good setup → KeepsParts m good setup
@@ -82,22 +44,22 @@ module _ {S L M T R : Type 0} (m : Meanings S L M T R) (good : S → Epoch → �
       → IsGivenOnce m setup epoch lives locals home
   given_once goods stores parts epoch round locals lives home is_good none stored live =
       let heir = heir_of epoch.homes (filter lives epoch.members) (m.shift setup) home in
-      let at : (lives heir ≡ true) × (is_member epoch.members heir ≡ true) = passed lives epoch.members heir live in
+      let at : (is_member epoch.members heir ≡ true) × (lives heir ≡ true) = member_filter_parts lives epoch.members heir live in
       let its : (local : L) × (local_of epoch.members locals heir ≡ Some local) =
-      has_local epoch.members locals heir at.1 (goods.one_each epoch round locals is_good) in
+      has_local epoch.members locals heir at.0 (goods.one_each epoch round locals is_good) in
       record {
         heir = heir;
         given = (
           its.0,
           (
-            at.0,
+            at.1,
             its.1,
-            parts.given epoch round locals lives heir its.0 is_good none its.1 at.0 home
-                ∙ both (is_member (m.stored locals) home) (heir == heir) stored (eq-eqb heir heir refl),
+            parts.given epoch round locals lives heir its.0 is_good none its.1 at.1 home
+                ∙ and_from (is_member (m.stored locals) home) (heir == heir) stored (eq-eqb heir heir refl),
           ),
         );
-        alone = λ rank given. sym (eqb-true heir rank (second (is_member (m.stored locals) home) (heir == rank)
-            (sym (parts.given epoch round locals lives rank given.0 is_good none given.1.1 given.1.0 home) ∙ given.1.2)));
+        alone = λ rank given. sym (eqb-true heir rank (and_parts (is_member (m.stored locals) home) (heir == rank)
+            (sym (parts.given epoch round locals lives rank given.0 is_good none given.1.1 given.1.0 home) ∙ given.1.2)).1);
       }
 
   -- where nothing is lost, one live member is given a stored part
@@ -111,6 +73,6 @@ module _ {S L M T R : Type 0} (m : Meanings S L M T R) (good : S → Epoch → �
       let live = filter lives epoch.members in
       let keeps : LosesNothing epoch.homes (m.stored locals) live (m.shift setup) =
       (losses epoch.homes (m.stored locals) live (m.shift setup)).0 none in
-      let is_home : is_member epoch.homes home ≡ true = all_hold (is_member epoch.homes) (m.stored locals) home (stores.homes epoch round locals is_good).1 stored in
+      let is_home : is_member epoch.homes home ≡ true = all_member (λ at. IsTrue (is_member epoch.homes at)) (m.stored locals) home (stores.homes epoch round locals is_good).1 stored in
       given_once goods stores parts epoch round locals lives home is_good none stored
       (heir_lives epoch.homes live (m.shift setup) home (keeps home is_home stored))

@@ -12,13 +12,24 @@ use std::process::Abort;
 use std::test::Fail;
 
 // Three ranks with four beads and two steps; buddies stand one place on, and each step ends with a snapshot.
-fn three(first: Option<u32>, second: Option<u32>) -> BeadSetup
+fn three() -> BeadSetup
     ensures { result.ranks ≡ 3 }
 {
-    let mut deaths = [None; 32];
-    deaths[0] = first;
-    deaths[1] = second;
-    BeadSetup::new(3, 4, 2, 1, 0, deaths)
+    BeadSetup::new(3, 4, 2, 1, 0, &[])
+}
+
+// The same ranks, of which the second dies after so many events.
+fn without_second(events: u32) -> BeadSetup
+    ensures { result.ranks ≡ 3 }
+{
+    BeadSetup::new(3, 4, 2, 1, 0, &[(1, events)])
+}
+
+// The same ranks, of which the first two die before they do anything.
+fn without_two() -> BeadSetup
+    ensures { result.ranks ≡ 3 }
+{
+    BeadSetup::new(3, 4, 2, 1, 0, &[(0, 0), (1, 0)])
 }
 
 // Whether a bead is among others with its value.
@@ -113,7 +124,7 @@ fn expect_two_alive(rt: &impl Abort, world: &World<Beads>) {
 
 #[test]
 fn passes_alone_finish_a_run(rt: HostRuntime) -> Result<(), Fail> {
-    let world = run(rt.alloc(), three(None, None), &[])?;
+    let world = run(rt.alloc(), three(), &[])?;
     expect_all_alive(&rt, &world);
     Ok(())
 }
@@ -121,7 +132,7 @@ fn passes_alone_finish_a_run(rt: HostRuntime) -> Result<(), Fail> {
 #[test]
 fn a_rising_order_finishes_alike(rt: HostRuntime) -> Result<(), Fail> {
     let order = [0, 1, 2, 0, 1, 2, 0, 1, 2, 0, 1, 2, 0, 1, 2];
-    let world = run(rt.alloc(), three(None, None), &order)?;
+    let world = run(rt.alloc(), three(), &order)?;
     expect_all_alive(&rt, &world);
     Ok(())
 }
@@ -129,23 +140,23 @@ fn a_rising_order_finishes_alike(rt: HostRuntime) -> Result<(), Fail> {
 #[test]
 fn a_falling_order_finishes_alike(rt: HostRuntime) -> Result<(), Fail> {
     let order = [2, 1, 0, 2, 1, 0, 2, 1, 0, 2, 1, 0, 2, 1, 0];
-    let world = run(rt.alloc(), three(None, None), &order)?;
+    let world = run(rt.alloc(), three(), &order)?;
     expect_all_alive(&rt, &world);
     Ok(())
 }
 
 #[test]
 fn one_rank_ahead_finishes_alike(rt: HostRuntime) -> Result<(), Fail> {
-    let world = run(rt.alloc(), three(None, None), &[1, 1, 1, 1])?;
+    let world = run(rt.alloc(), three(), &[1, 1, 1, 1])?;
     expect_all_alive(&rt, &world);
     Ok(())
 }
 
 #[test]
 fn a_death_at_the_opening_changes_no_values(rt: HostRuntime) -> Result<(), Fail> {
-    let world = run(rt.alloc(), three(None, Some(0)), &[])?;
+    let world = run(rt.alloc(), without_second(0), &[])?;
     expect_two_alive(&rt, &world);
-    let falling = run(rt.alloc(), three(None, Some(0)), &[2, 1, 0, 2, 1, 0])?;
+    let falling = run(rt.alloc(), without_second(0), &[2, 1, 0, 2, 1, 0])?;
     expect_two_alive(&rt, &falling);
     Ok(())
 }
@@ -153,9 +164,9 @@ fn a_death_at_the_opening_changes_no_values(rt: HostRuntime) -> Result<(), Fail>
 // The second rank has four events in which neighbours tell each other, and then has sent one bead or none.
 #[test]
 fn a_death_among_moves_changes_no_values(rt: HostRuntime) -> Result<(), Fail> {
-    let world = run(rt.alloc(), three(None, Some(5)), &[])?;
+    let world = run(rt.alloc(), without_second(5), &[])?;
     expect_two_alive(&rt, &world);
-    let falling = run(rt.alloc(), three(None, Some(5)), &[2, 1, 0, 2, 1, 0])?;
+    let falling = run(rt.alloc(), without_second(5), &[2, 1, 0, 2, 1, 0])?;
     expect_two_alive(&rt, &falling);
     Ok(())
 }
@@ -163,16 +174,16 @@ fn a_death_among_moves_changes_no_values(rt: HostRuntime) -> Result<(), Fail> {
 // The second rank has fourteen events in an epoch: twelve sends and receives, its arrival and its leaving.
 #[test]
 fn a_death_after_a_commit_changes_no_values(rt: HostRuntime) -> Result<(), Fail> {
-    let world = run(rt.alloc(), three(None, Some(14)), &[])?;
+    let world = run(rt.alloc(), without_second(14), &[])?;
     expect_two_alive(&rt, &world);
-    let falling = run(rt.alloc(), three(None, Some(14)), &[2, 1, 0, 2, 1, 0])?;
+    let falling = run(rt.alloc(), without_second(14), &[2, 1, 0, 2, 1, 0])?;
     expect_two_alive(&rt, &falling);
     Ok(())
 }
 
 #[test]
 fn deaths_of_both_holders_lose_a_part(rt: HostRuntime) -> Result<(), Fail> {
-    let world = run(rt.alloc(), three(Some(0), Some(0)), &[])?;
+    let world = run(rt.alloc(), without_two(), &[])?;
     let lost = Outcome::Lost {
         time: 0,
         home: 0,
@@ -189,10 +200,7 @@ fn deaths_of_both_holders_lose_a_part(rt: HostRuntime) -> Result<(), Fail> {
 fn four(last: u32) -> BeadSetup
     ensures { result.ranks ≡ 4 }
 {
-    let mut deaths = [None; 32];
-    deaths[1] = Some(0);
-    deaths[3] = Some(last);
-    BeadSetup::new(4, 4, 2, 1, 0, deaths)
+    BeadSetup::new(4, 4, 2, 1, 0, &[(1, 0), (3, last)])
 }
 
 // The third rank goes on with beads 1 and 2, and the first, as the last rank's buddy, with 0 and 3. In the first step they
@@ -228,7 +236,7 @@ fn a_death_after_copies_are_made_again_changes_no_values(rt: HostRuntime) -> Res
 fn most() -> BeadSetup
     ensures { result.ranks ≡ 32 }
 {
-    BeadSetup::new(32, 32, 128, 16, 0, [None; 32])
+    BeadSetup::new(32, 32, 128, 16, 0, &[])
 }
 
 // In each step every rank sends to each of the 31 others and receives from it, where beads move: 128 * 32 * 31 * 2 = 253,952
@@ -253,7 +261,7 @@ fn the_most_ranks_take_the_most_steps(rt: HostRuntime) -> Result<(), Fail> {
 fn five_worlds_have_more_than_a_million_events(rt: HostRuntime) -> Result<(), Fail> {
     let mut events = 0usize;
     for shift in 0..5u32 {
-        let setup = BeadSetup::new(32, 32, 128, 16, shift, [None; 32]);
+        let setup = BeadSetup::new(32, 32, 128, 16, shift, &[]);
         let world = run(rt.alloc(), setup, &[])?;
         assert_eq!(rt; world.outcome(), Some(Outcome::Finished));
         assert!(rt; is_given(world.parcels(), 31, 31, 12_128));
