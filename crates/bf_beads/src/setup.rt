@@ -24,6 +24,16 @@ pub struct BeadSetup {
     pub ghost deaths_rise: { IsStrictlyIncreasing (map (λ (death : ℕ × ℕ). death.0) (take dying deaths)) },
 }
 
+// A table that begins with these deaths.
+fn table_of(deaths: &[(u32, u32)]) -> [(u32, u32); 32]
+    requires { length deaths.now ≤ 32 }
+    ensures { take (length deaths.now) result ≡ deaths.now }
+{
+    let mut table = [(0, 0); 32];
+    table[..deaths.len()].copy_from_slice(deaths);
+    table
+}
+
 impl BeadSetup {
     /// A case, with the ranks that die, rising, and how many events each has by then.
     pub fn new(
@@ -51,8 +61,7 @@ impl BeadSetup {
         ensures shift { result.shift ≡ shift }
         ensures deaths { take result.dying result.deaths ≡ deaths.now }
     {
-        let mut table = [(0, 0); 32];
-        table[..deaths.len()].copy_from_slice(deaths);
+        let table = table_of(deaths);
         BeadSetup {
             ranks,
             beads,
