@@ -8,9 +8,12 @@ use Rattle.bf_id.specs.declared.shape.Shape.{Shape}
 use Rattle.bf_id.specs.declared.face.Face.{Face}
 use Rattle.bf_id.specs.declared.face.Face.TheVariants.{XLow, XHigh, YLow, YHigh, ZLow, ZHigh}
 use Rattle.bf_id.specs.Face.{number_of, opposite_of, SharesFace}
-use Rattle.bf_id.specs.Shape.{IsShape, InDomain}
+use Rattle.bf_id.specs.Axis.{JoinsOn, IsLast, back, on}
+use Rattle.bf_id.specs.Shape.{IsShape, InDomain, root_cube, axis_x, axis_y, axis_z}
+use Rattle.bf_id.proofs.Axes.{OverlapsOn-here}
+use Rattle.bf_id.proofs.Steps.{back-parts, on-parts, first-parts, not-first-parts, last-parts, not-last-parts, joins_before, joins_after, not_before_itself, not_after_itself, back-below, on-below}
 use Rattle.bf_id.specs.Tiling.{IsBalanced}
-use Rattle.bf_id.proofs.Cubes.{Meet-from_face}
+use Rattle.bf_id.proofs.Cubes.{Meet-from_face, narrowed_within, short_x, short_y, short_z}
 use Rattle.bf_id.proofs.Boxes.{edge-box, Touch_sym}
 use Rattle.bf_id.specs.Cube.{Cube, Voxel, Spans, Holds}
 use Rattle.bf_id.specs.Id.{BlockId, level_of, box_of, IsId, InShape, Touch}
@@ -21,9 +24,8 @@ use Rattle.bf_cells.specs.Levels.{face_mean}
 use Rattle.bf_case.specs.Beside.{IsAtEdge, LiesAcross, face_corner, value_beside, first_low, second_low, unit_across}
 use Rattle.bf_case.specs.Map.{Leaf, IsMap, HasCells, ids_of}
 use Rattle.bf_case.specs.Sample.{scale_of, sample}
-use Rattle.bf_case.specs.Stencil.{extent_of}
-use Rattle.bf_case.proofs.AlignLemmas.{IsMultiple, aligned, first_aligned, second_aligned, first_spans, second_spans, same_low, finer_low, coarser_half, no_finer_low}
-use Rattle.bf_case.proofs.Axis.{choose-same, choose-other}
+use Rattle.bf_case.specs.Stencil.{cells_x, cells_y, cells_z}
+use Rattle.bf_case.proofs.AlignLemmas.{IsMultiple, aligned, first_aligned, second_aligned, first_spans, second_spans, same_low, finer_low, no_finer_low}
 use Rattle.bf_case.proofs.BlockSteps.{box_ends}
 use Rattle.bf_case.proofs.ListLemmas.{Contains-map}
 use Rattle.bf_case.proofs.FinestLemmas.{IsAlong, IsIn, sample_in, mean_in}
@@ -31,21 +33,14 @@ use Rattle.bf_case.proofs.FinestLemmas.{IsAlong, IsIn, sample_in, mean_in}
 -- ---- one axis: where the finest cell beside a face's cell lies in the other block
 
 -- the axis of the face, where the other block ends at the first one's beginning; the cell has r cells before it and d from it on
-pub low_along : (side low scale x e r d : ℕ) → low + scale ≡ x → r + d ≡ side → 0 < d → e ≤ d * scale → d * scale < e + scale
-    → IsAlong side low scale (side * x + 0 * e - e) r
-low_along side low scale x e r d next whole some least most =
-    let far : side * x ≡ side * low + (r + d) * scale = rw (← next, ← whole) (omega arith) in
+pub low_along : (side low scale e r d : ℕ) → r + d ≡ side → 0 < d → e ≤ d * scale → d * scale < e + scale → IsAlong side low scale (side * (low + scale) - e) r
+low_along side low scale e r d whole some least most =
+    let far : side * (low + scale) ≡ side * low + (r + d) * scale = rw (← whole) (omega arith) in
     record { inside = omega arith; from = omega arith; before = omega arith }
 
 -- where it begins at the first one's end
-high_by : (m scale x e : ℕ) → 0 < scale → IsAlong (m + 1) (x + e) scale ((m + 1) * x + m * e + e) 0
-high_by m scale x e wide = record { inside = omega arith; from = omega arith; before = omega arith }
-
-pub high_along : (side low scale x e : ℕ) → 0 < scale → low ≡ x + e → 0 < side → IsAlong side low scale (side * x + (side - 1) * e + e) 0
-high_along side low scale x e wide next some =
-    let m = side - 1 in
-    let whole : m + 1 ≡ side = omega arith in
-    rw next (subst (λ s. IsAlong s (x + e) scale (s * x + m * e + e) 0) whole (high_by m scale x e wide))
+pub high_along : (side low scale : ℕ) → 0 < scale → 0 < side → IsAlong side low scale (side * low) 0
+high_along side low scale wide some = record { inside = some; from = omega arith; before = omega arith }
 
 -- the two other axes, where the other block is of the same level
 pub same_along : (side low scale a : ℕ) → 0 < scale → a < side → IsAlong side low scale (side * low + a * scale) a
@@ -97,46 +92,26 @@ cell_across ZHigh n a b = record { x = a; y = b; z = 0 }
 
 -- the low corner of the cell beside a face's cell, which has this scale too
 abbrev pub corner_across : Shape → ℕ → BlockId → ℕ → Face → ℕ → ℕ → Voxel
-corner_across shape side i e XLow a b = let p = face_corner shape side i XLow a b in record { x = p.x - e; y = p.y; z = p.z }
-corner_across shape side i e XHigh a b = let p = face_corner shape side i XHigh a b in record { x = p.x + e; y = p.y; z = p.z }
-corner_across shape side i e YLow a b = let p = face_corner shape side i YLow a b in record { x = p.x; y = p.y - e; z = p.z }
-corner_across shape side i e YHigh a b = let p = face_corner shape side i YHigh a b in record { x = p.x; y = p.y + e; z = p.z }
-corner_across shape side i e ZLow a b = let p = face_corner shape side i ZLow a b in record { x = p.x; y = p.y; z = p.z - e }
-corner_across shape side i e ZHigh a b = let p = face_corner shape side i ZHigh a b in record { x = p.x; y = p.y; z = p.z + e }
-
--- the domain's edge, along one axis
-end_at : (side x e end : ℕ) → 0 < side → x + e ≡ end → side * x + (side - 1) * e + e ≡ side * end
-end_at side x e end some ends =
-    let m = side - 1 in
-    let whole : m + 1 ≡ side = omega arith in
-    rw (← ends) (subst (λ s. s * x + m * e + e ≡ s * (x + e)) whole (omega arith))
-
-low_apart : (side x e : ℕ) → 0 < side → (x ≡ 0 → ⊥) → side * x + 0 * e ≡ 0 → ⊥
-low_apart side x e some apart at = apart (let h = mul-le-mul_left x (let one : 1 ≤ side = omega arith in one) in omega (arith, h))
-
-high_apart : (side x e end : ℕ) → 0 < side → (x + e ≡ end → ⊥) → x + e ≤ end → side * x + (side - 1) * e + e ≡ side * end → ⊥
-high_apart side x e end some apart fits at =
-    let short : x + e + 1 ≤ end = omega (arith, apart) in
-    let room : side * (x + e + 1) ≤ side * end = mul-le-mul_left side short in
-    let same : side * x + (side - 1) * e + e ≡ side * (x + e) = end_at side x e (x + e) some refl in
-    omega arith
+corner_across shape side i e XLow a b = let p = face_corner shape side i XLow a b in record { x = back (cells_x shape side) e p.x; y = p.y; z = p.z }
+corner_across shape side i e XHigh a b = let p = face_corner shape side i XHigh a b in record { x = on (cells_x shape side) e p.x; y = p.y; z = p.z }
+corner_across shape side i e YLow a b = let p = face_corner shape side i YLow a b in record { x = p.x; y = back (cells_y shape side) e p.y; z = p.z }
+corner_across shape side i e YHigh a b = let p = face_corner shape side i YHigh a b in record { x = p.x; y = on (cells_y shape side) e p.y; z = p.z }
+corner_across shape side i e ZLow a b = let p = face_corner shape side i ZLow a b in record { x = p.x; y = p.y; z = back (cells_z shape side) e p.z }
+corner_across shape side i e ZHigh a b = let p = face_corner shape side i ZHigh a b in record { x = p.x; y = p.y; z = on (cells_z shape side) e p.z }
 
 -- at the domain's edge the value beside a cell is its own
 pub edge_beside : (shape : Shape) (leaves : List Leaf) (i : BlockId) (g : Grid) (face : Face) (a b : ℕ) → 0 < g.side
     → (box_of shape i).edge ≡ scale_of (level_of i) → IsAtEdge shape (box_of shape i) face
     → value_beside shape leaves i g face a b ≡ face_cell g (number_of face) a b
-edge_beside shape leaves i g XLow a b some edge at =
-    choose-same _ 0 _ _ (ap (λ n. g.side * n + 0 * scale_of (level_of i)) at ∙ omega arith)
+edge_beside shape leaves i g XLow a b some edge at = first-parts (axis_x shape) g.side (box_of shape i).x (scale_of (level_of i)) _ _ at
 edge_beside shape leaves i g XHigh a b some edge at =
-    choose-same _ (extent_of g.side shape.nx) _ _ (end_at g.side (box_of shape i).x (scale_of (level_of i)) (16 * shape.nx) some (ap (λ n. (box_of shape i).x + n) (sym edge) ∙ at))
-edge_beside shape leaves i g YLow a b some edge at =
-    choose-same _ 0 _ _ (ap (λ n. g.side * n + 0 * scale_of (level_of i)) at ∙ omega arith)
+    last-parts (axis_x shape) g.side (box_of shape i).x (scale_of (level_of i)) _ _ some (subst (λ n. IsLast (axis_x shape) ((box_of shape i).x + n)) edge at)
+edge_beside shape leaves i g YLow a b some edge at = first-parts (axis_y shape) g.side (box_of shape i).y (scale_of (level_of i)) _ _ at
 edge_beside shape leaves i g YHigh a b some edge at =
-    choose-same _ (extent_of g.side shape.ny) _ _ (end_at g.side (box_of shape i).y (scale_of (level_of i)) (16 * shape.ny) some (ap (λ n. (box_of shape i).y + n) (sym edge) ∙ at))
-edge_beside shape leaves i g ZLow a b some edge at =
-    choose-same _ 0 _ _ (ap (λ n. g.side * n + 0 * scale_of (level_of i)) at ∙ omega arith)
+    last-parts (axis_y shape) g.side (box_of shape i).y (scale_of (level_of i)) _ _ some (subst (λ n. IsLast (axis_y shape) ((box_of shape i).y + n)) edge at)
+edge_beside shape leaves i g ZLow a b some edge at = first-parts (axis_z shape) g.side (box_of shape i).z (scale_of (level_of i)) _ _ at
 edge_beside shape leaves i g ZHigh a b some edge at =
-    choose-same _ (extent_of g.side shape.nz) _ _ (end_at g.side (box_of shape i).z (scale_of (level_of i)) (16 * shape.nz) some (ap (λ n. (box_of shape i).z + n) (sym edge) ∙ at))
+    last-parts (axis_z shape) g.side (box_of shape i).z (scale_of (level_of i)) _ _ some (subst (λ n. IsLast (axis_z shape) ((box_of shape i).z + n)) edge at)
 
 -- a box that ends in the domain, by the scale of its cells
 pub record EndsIn (shape : Shape) (box : Cube) (e : ℕ) : Type 0 where
@@ -150,45 +125,54 @@ pub record EndsIn (shape : Shape) (box : Cube) (e : ℕ) : Type 0 where
 pub inner_beside : (shape : Shape) (leaves : List Leaf) (i : BlockId) (g : Grid) (face : Face) (a b : ℕ) → 0 < g.side
     → EndsIn shape (box_of shape i) (scale_of (level_of i)) → (IsAtEdge shape (box_of shape i) face → ⊥)
     → value_beside shape leaves i g face a b ≡ sample shape g.side leaves (level_of i) (corner_across shape g.side i (scale_of (level_of i)) face a b)
-inner_beside shape leaves i g XLow a b some ends inner =
-    choose-other _ 0 _ _ (low_apart g.side (box_of shape i).x (scale_of (level_of i)) some inner)
+inner_beside shape leaves i g XLow a b some ends inner = not-first-parts (axis_x shape) g.side (box_of shape i).x (scale_of (level_of i)) _ _ some inner
 inner_beside shape leaves i g XHigh a b some ends inner =
-    choose-other _ (extent_of g.side shape.nx) _ _ (high_apart g.side (box_of shape i).x (scale_of (level_of i)) (16 * shape.nx) some
-    (λ at. inner (ap (λ n. (box_of shape i).x + n) ends.edge ∙ at)) ends.x_end)
-inner_beside shape leaves i g YLow a b some ends inner =
-    choose-other _ 0 _ _ (low_apart g.side (box_of shape i).y (scale_of (level_of i)) some inner)
+    not-last-parts (axis_x shape) g.side (box_of shape i).x (scale_of (level_of i)) _ _ some ends.x_end
+    (λ at. inner (subst (λ n. IsLast (axis_x shape) ((box_of shape i).x + n)) (sym ends.edge) at))
+inner_beside shape leaves i g YLow a b some ends inner = not-first-parts (axis_y shape) g.side (box_of shape i).y (scale_of (level_of i)) _ _ some inner
 inner_beside shape leaves i g YHigh a b some ends inner =
-    choose-other _ (extent_of g.side shape.ny) _ _ (high_apart g.side (box_of shape i).y (scale_of (level_of i)) (16 * shape.ny) some
-    (λ at. inner (ap (λ n. (box_of shape i).y + n) ends.edge ∙ at)) ends.y_end)
-inner_beside shape leaves i g ZLow a b some ends inner =
-    choose-other _ 0 _ _ (low_apart g.side (box_of shape i).z (scale_of (level_of i)) some inner)
+    not-last-parts (axis_y shape) g.side (box_of shape i).y (scale_of (level_of i)) _ _ some ends.y_end
+    (λ at. inner (subst (λ n. IsLast (axis_y shape) ((box_of shape i).y + n)) (sym ends.edge) at))
+inner_beside shape leaves i g ZLow a b some ends inner = not-first-parts (axis_z shape) g.side (box_of shape i).z (scale_of (level_of i)) _ _ some inner
 inner_beside shape leaves i g ZHigh a b some ends inner =
-    choose-other _ (extent_of g.side shape.nz) _ _ (high_apart g.side (box_of shape i).z (scale_of (level_of i)) (16 * shape.nz) some
-    (λ at. inner (ap (λ n. (box_of shape i).z + n) ends.edge ∙ at)) ends.z_end)
+    not-last-parts (axis_z shape) g.side (box_of shape i).z (scale_of (level_of i)) _ _ some ends.z_end
+    (λ at. inner (subst (λ n. IsLast (axis_z shape) ((box_of shape i).z + n)) (sym ends.edge) at))
 
 -- in which cell of the other block the cell beside lies, by its place along each axis
 pub record MeetsAlong (side t e n a b ca cb : ℕ) (face : Face) (own other : Cube) : Type 0 where
-  pub low : (low x : ℕ) → low + t ≡ x → IsAlong side low t (side * x + 0 * e - e) n
-  pub high : (low x : ℕ) → low ≡ x + e → IsAlong side low t (side * x + (side - 1) * e + e) 0
+  pub low : (low : ℕ) → IsAlong side low t (side * (low + t) - e) n
+  pub high : (low : ℕ) → IsAlong side low t (side * low) 0
   pub first : IsAlong side (first_low face other) t (side * first_low face own + a * e) ca
   pub second : IsAlong side (second_low face other) t (side * second_low face own + b * e) cb
 
-pub in_across : (shape : Shape) (side : ℕ) (i : BlockId) (other : Cube) (face : Face) (t n a b ca cb : ℕ)
-    → (box_of shape i).edge ≡ scale_of (level_of i) → other.edge ≡ t → SharesFace face (box_of shape i) other
+pub in_across : (shape : Shape) (side : ℕ) (i : BlockId) (other : Cube) (face : Face) (t n a b ca cb : ℕ) → 0 < side
+    → EndsIn shape (box_of shape i) (scale_of (level_of i)) → EndsIn shape other t → SharesFace shape face (box_of shape i) other
     → MeetsAlong side t (scale_of (level_of i)) n a b ca cb face (box_of shape i) other
     → IsIn side other t (corner_across shape side i (scale_of (level_of i)) face a b) (cell_across face n ca cb)
-in_across shape side i other XLow t n a b ca cb edge edge' shares meets =
-    record { along_x = meets.low other.x (box_of shape i).x (ap (λ k. other.x + k) (sym edge') ∙ shares.0); along_y = meets.first; along_z = meets.second }
-in_across shape side i other XHigh t n a b ca cb edge edge' shares meets =
-    record { along_x = meets.high other.x (box_of shape i).x (sym (ap (λ k. (box_of shape i).x + k) (sym edge) ∙ shares.0)); along_y = meets.first; along_z = meets.second }
-in_across shape side i other YLow t n a b ca cb edge edge' shares meets =
-    record { along_y = meets.low other.y (box_of shape i).y (ap (λ k. other.y + k) (sym edge') ∙ shares.0); along_x = meets.first; along_z = meets.second }
-in_across shape side i other YHigh t n a b ca cb edge edge' shares meets =
-    record { along_y = meets.high other.y (box_of shape i).y (sym (ap (λ k. (box_of shape i).y + k) (sym edge) ∙ shares.0)); along_x = meets.first; along_z = meets.second }
-in_across shape side i other ZLow t n a b ca cb edge edge' shares meets =
-    record { along_z = meets.low other.z (box_of shape i).z (ap (λ k. other.z + k) (sym edge') ∙ shares.0); along_x = meets.first; along_y = meets.second }
-in_across shape side i other ZHigh t n a b ca cb edge edge' shares meets =
-    record { along_z = meets.high other.z (box_of shape i).z (sym (ap (λ k. (box_of shape i).z + k) (sym edge) ∙ shares.0)); along_x = meets.first; along_y = meets.second }
+in_across shape side i other XLow t n a b ca cb some ends ends' shares meets =
+    let at = back-parts (axis_x shape) side other.x t (box_of shape i).x (scale_of (level_of i)) some ends'.wide ends.wide ends'.x_end ends.x_end
+    (subst (λ k. JoinsOn (axis_x shape) (other.x + k) (box_of shape i).x) ends'.edge shares.0) in
+    record { along_x = rw at (meets.low other.x); along_y = meets.first; along_z = meets.second }
+in_across shape side i other XHigh t n a b ca cb some ends ends' shares meets =
+    let at = on-parts (axis_x shape) side other.x t (box_of shape i).x (scale_of (level_of i)) some ends'.wide ends'.x_end ends.x_end
+    (subst (λ k. JoinsOn (axis_x shape) ((box_of shape i).x + k) other.x) ends.edge shares.0) in
+    record { along_x = rw at (meets.high other.x); along_y = meets.first; along_z = meets.second }
+in_across shape side i other YLow t n a b ca cb some ends ends' shares meets =
+    let at = back-parts (axis_y shape) side other.y t (box_of shape i).y (scale_of (level_of i)) some ends'.wide ends.wide ends'.y_end ends.y_end
+    (subst (λ k. JoinsOn (axis_y shape) (other.y + k) (box_of shape i).y) ends'.edge shares.0) in
+    record { along_y = rw at (meets.low other.y); along_x = meets.first; along_z = meets.second }
+in_across shape side i other YHigh t n a b ca cb some ends ends' shares meets =
+    let at = on-parts (axis_y shape) side other.y t (box_of shape i).y (scale_of (level_of i)) some ends'.wide ends'.y_end ends.y_end
+    (subst (λ k. JoinsOn (axis_y shape) ((box_of shape i).y + k) other.y) ends.edge shares.0) in
+    record { along_y = rw at (meets.high other.y); along_x = meets.first; along_z = meets.second }
+in_across shape side i other ZLow t n a b ca cb some ends ends' shares meets =
+    let at = back-parts (axis_z shape) side other.z t (box_of shape i).z (scale_of (level_of i)) some ends'.wide ends.wide ends'.z_end ends.z_end
+    (subst (λ k. JoinsOn (axis_z shape) (other.z + k) (box_of shape i).z) ends'.edge shares.0) in
+    record { along_z = rw at (meets.low other.z); along_x = meets.first; along_y = meets.second }
+in_across shape side i other ZHigh t n a b ca cb some ends ends' shares meets =
+    let at = on-parts (axis_z shape) side other.z t (box_of shape i).z (scale_of (level_of i)) some ends'.wide ends'.z_end ends.z_end
+    (subst (λ k. JoinsOn (axis_z shape) ((box_of shape i).z + k) other.z) ends.edge shares.0) in
+    record { along_z = rw at (meets.high other.z); along_x = meets.first; along_y = meets.second }
 
 -- the cell of the other block is on its opposite face
 pub cell_on_face : (h : Grid) (face : Face) (a b : ℕ)
@@ -241,56 +225,54 @@ inside_held box ZLow a b ha hb = record { along_x = omega arith; along_y = omega
 inside_held box ZHigh a b ha hb = record { along_x = omega arith; along_y = omega arith; along_z = omega arith }
 
 -- a block has no unit across its own face
-not_across_itself : (shape : Shape) (box : Cube) (face : Face) (a b : ℕ) → (IsAtEdge shape box face → ⊥) → Holds box (unit_across box face a b) → ⊥
-not_across_itself shape box XLow a b inner held = inner (let h = held.along_x in omega arith)
-not_across_itself shape box XHigh a b inner held = let h = held.along_x in omega arith
-not_across_itself shape box YLow a b inner held = inner (let h = held.along_y in omega arith)
-not_across_itself shape box YHigh a b inner held = let h = held.along_y in omega arith
-not_across_itself shape box ZLow a b inner held = inner (let h = held.along_z in omega arith)
-not_across_itself shape box ZHigh a b inner held = let h = held.along_z in omega arith
+not_across_itself : (shape : Shape) (box : Cube) (face : Face) (a b : ℕ) → IsShape shape → box.edge ≤ 16 → (IsAtEdge shape box face → ⊥)
+    → Holds box (unit_across shape box face a b) → ⊥
+not_across_itself shape box XLow a b is narrow inner held =
+    not_before_itself (axis_x shape) box.x box.edge inner (short_x shape is box.edge narrow) held.along_x
+not_across_itself shape box XHigh a b is narrow inner held =
+    not_after_itself (axis_x shape) box.x box.edge inner (short_x shape is box.edge narrow) held.along_x
+not_across_itself shape box YLow a b is narrow inner held =
+    not_before_itself (axis_y shape) box.y box.edge inner (short_y shape is box.edge narrow) held.along_y
+not_across_itself shape box YHigh a b is narrow inner held =
+    not_after_itself (axis_y shape) box.y box.edge inner (short_y shape is box.edge narrow) held.along_y
+not_across_itself shape box ZLow a b is narrow inner held =
+    not_before_itself (axis_z shape) box.z box.edge inner (short_z shape is box.edge narrow) held.along_z
+not_across_itself shape box ZHigh a b is narrow inner held =
+    not_after_itself (axis_z shape) box.z box.edge inner (short_z shape is box.edge narrow) held.along_z
 
--- a box with the unit across, and without the unit beside it, shares the face
+-- a box that ends in the domain, with the unit across, and without the unit beside it, shares the face
 shares : (shape : Shape) (own other : Cube) (face : Face) (a b : ℕ) → a < own.edge → b < own.edge → (IsAtEdge shape own face → ⊥)
-    → Holds other (unit_across own face a b) → (Holds other (unit_inside own face a b) → ⊥) → SharesFace face own other
-shares shape own other XLow a b ha hb inner held apart =
-    let at = held.along_x in
-    let some : 0 < own.x = omega (arith, inner) in
-    let outside : own.x < other.x + other.edge → ⊥ = λ h. apart (record { along_x = omega arith; along_y = held.along_y; along_z = held.along_z }) in
+    → EndsIn shape other other.edge → Holds other (unit_across shape own face a b) → (Holds other (unit_inside own face a b) → ⊥) → SharesFace shape face own other
+shares shape own other XLow a b ha hb inner fits held apart =
     let first = held.along_y in
     let second = held.along_z in
-    (omega (arith, outside), omega arith, omega arith)
-shares shape own other XHigh a b ha hb inner held apart =
-    let at = held.along_x in
-    let outside : other.x ≤ own.x + (own.edge - 1) → ⊥ = λ h. apart (record { along_x = omega arith; along_y = held.along_y; along_z = held.along_z }) in
+    let joins = joins_before (axis_x shape) own.x other.x other.edge inner fits.x_end held.along_x (λ h. apart (record { along_x = h; along_y = held.along_y; along_z = held.along_z })) in
+    (joins, OverlapsOn-here (axis_y shape) own.y own.edge other.y other.edge (omega arith) (omega arith), OverlapsOn-here (axis_z shape) own.z own.edge other.z other.edge (omega arith) (omega arith))
+shares shape own other XHigh a b ha hb inner fits held apart =
     let first = held.along_y in
     let second = held.along_z in
-    (omega (arith, outside), omega arith, omega arith)
-shares shape own other YLow a b ha hb inner held apart =
-    let at = held.along_y in
-    let some : 0 < own.y = omega (arith, inner) in
-    let outside : own.y < other.y + other.edge → ⊥ = λ h. apart (record { along_y = omega arith; along_x = held.along_x; along_z = held.along_z }) in
+    let joins = joins_after (axis_x shape) own.x own.edge other.x other.edge (omega arith) inner held.along_x (λ h. apart (record { along_x = h; along_y = held.along_y; along_z = held.along_z })) in
+    (joins, OverlapsOn-here (axis_y shape) own.y own.edge other.y other.edge (omega arith) (omega arith), OverlapsOn-here (axis_z shape) own.z own.edge other.z other.edge (omega arith) (omega arith))
+shares shape own other YLow a b ha hb inner fits held apart =
     let first = held.along_x in
     let second = held.along_z in
-    (omega (arith, outside), omega arith, omega arith)
-shares shape own other YHigh a b ha hb inner held apart =
-    let at = held.along_y in
-    let outside : other.y ≤ own.y + (own.edge - 1) → ⊥ = λ h. apart (record { along_y = omega arith; along_x = held.along_x; along_z = held.along_z }) in
+    let joins = joins_before (axis_y shape) own.y other.y other.edge inner fits.y_end held.along_y (λ h. apart (record { along_y = h; along_x = held.along_x; along_z = held.along_z })) in
+    (joins, OverlapsOn-here (axis_x shape) own.x own.edge other.x other.edge (omega arith) (omega arith), OverlapsOn-here (axis_z shape) own.z own.edge other.z other.edge (omega arith) (omega arith))
+shares shape own other YHigh a b ha hb inner fits held apart =
     let first = held.along_x in
     let second = held.along_z in
-    (omega (arith, outside), omega arith, omega arith)
-shares shape own other ZLow a b ha hb inner held apart =
-    let at = held.along_z in
-    let some : 0 < own.z = omega (arith, inner) in
-    let outside : own.z < other.z + other.edge → ⊥ = λ h. apart (record { along_z = omega arith; along_x = held.along_x; along_y = held.along_y }) in
+    let joins = joins_after (axis_y shape) own.y own.edge other.y other.edge (omega arith) inner held.along_y (λ h. apart (record { along_y = h; along_x = held.along_x; along_z = held.along_z })) in
+    (joins, OverlapsOn-here (axis_x shape) own.x own.edge other.x other.edge (omega arith) (omega arith), OverlapsOn-here (axis_z shape) own.z own.edge other.z other.edge (omega arith) (omega arith))
+shares shape own other ZLow a b ha hb inner fits held apart =
     let first = held.along_x in
     let second = held.along_y in
-    (omega (arith, outside), omega arith, omega arith)
-shares shape own other ZHigh a b ha hb inner held apart =
-    let at = held.along_z in
-    let outside : other.z ≤ own.z + (own.edge - 1) → ⊥ = λ h. apart (record { along_z = omega arith; along_x = held.along_x; along_y = held.along_y }) in
+    let joins = joins_before (axis_z shape) own.z other.z other.edge inner fits.z_end held.along_z (λ h. apart (record { along_z = h; along_x = held.along_x; along_y = held.along_y })) in
+    (joins, OverlapsOn-here (axis_x shape) own.x own.edge other.x other.edge (omega arith) (omega arith), OverlapsOn-here (axis_y shape) own.y own.edge other.y other.edge (omega arith) (omega arith))
+shares shape own other ZHigh a b ha hb inner fits held apart =
     let first = held.along_x in
     let second = held.along_y in
-    (omega (arith, outside), omega arith, omega arith)
+    let joins = joins_after (axis_z shape) own.z own.edge other.z other.edge (omega arith) inner held.along_z (λ h. apart (record { along_z = h; along_x = held.along_x; along_y = held.along_y })) in
+    (joins, OverlapsOn-here (axis_x shape) own.x own.edge other.x other.edge (omega arith) (omega arith), OverlapsOn-here (axis_y shape) own.y own.edge other.y other.edge (omega arith) (omega arith))
 
 -- two leaves that lie across a face
 pub record AreAcross (shape : Shape) (side : ℕ) (i j : BlockId) (g h : Grid) (face : Face) : Type 0 where
@@ -299,14 +281,20 @@ pub record AreAcross (shape : Shape) (side : ℕ) (i j : BlockId) (g h : Grid) (
   pub fits : g.side ≡ side
   pub fits_too : h.side ≡ side
   pub ends : EndsIn shape (box_of shape i) (scale_of (level_of i))
+  pub ends_too : EndsIn shape (box_of shape j) (scale_of (level_of j))
   pub edge : (box_of shape j).edge ≡ scale_of (level_of j)
   pub wide : 0 < scale_of (level_of j)
+  pub narrow : (box_of shape i).edge ≤ 16
   pub shallow : level_of i ≤ 4
   pub shallow_too : level_of j ≤ 4
-  pub share : SharesFace face (box_of shape i) (box_of shape j)
+  pub share : SharesFace shape face (box_of shape i) (box_of shape j)
 
 pub leaf_edge : (shape : Shape) (i : BlockId) → level_of i ≤ 4 → (box_of shape i).edge ≡ scale_of (level_of i)
 leaf_edge shape i shallow = edge-box shape i (4 - level_of i) (omega arith)
+
+-- a box is no wider than a root
+pub box_narrow : (shape : Shape) (i : BlockId) → IsId i → (box_of shape i).edge ≤ 16
+box_narrow shape i id = let within = narrowed_within i.digits (root_cube shape i.root) id.octal in omega arith
 
 pub across_leaves : (shape : Shape) (side : ℕ) (leaves : List Leaf) (i j : BlockId) (g h : Grid) (face : Face) (a b : ℕ) → IsShape shape
     → LiesAcross shape side leaves (i, g) face a b (j, h) → a < (box_of shape i).edge → b < (box_of shape i).edge
@@ -320,7 +308,11 @@ across_leaves shape side leaves i j g h face a b valid lies a_in b_in =
     let cells = All-contains (HasCells side) leaves (i, g) is.cells lies.own_in in
     let cells_too = All-contains (HasCells side) leaves (j, h) is.cells lies.other_in in
     let within = All-contains (InShape shape) (ids_of leaves) i is.in_shape id_in in
+    let within_too = All-contains (InShape shape) (ids_of leaves) j is.in_shape id_in_too in
     let ends = box_ends shape i valid id within in
+    let ends_too = box_ends shape j valid id_too within_too in
+    let edge_too : (box_of shape j).edge ≡ scale_of (level_of j) = leaf_edge shape j id_too.shallow in
+    let narrow : (box_of shape i).edge ≤ 16 = box_narrow shape i id in
     let inside = unit_inside (box_of shape i) face a b in
     let low = cells.valid.low in
     let even = cells.valid.even in
@@ -331,13 +323,16 @@ across_leaves shape side leaves i j g h face a b valid lies a_in b_in =
       fits = fits;
       fits_too = cells_too.fits;
       ends = record { edge = leaf_edge shape i id.shallow; wide = ends.0; x_end = ends.1; y_end = ends.2; z_end = ends.3 };
-      edge = leaf_edge shape j id_too.shallow;
+      ends_too = record { edge = edge_too; wide = ends_too.0; x_end = ends_too.1; y_end = ends_too.2; z_end = ends_too.3 };
+      edge = edge_too;
+      narrow = narrow;
       wide = pow_pos (4 - level_of j);
       shallow = id.shallow;
       shallow_too = id_too.shallow;
-      share = shares shape (box_of shape i) (box_of shape j) face a b a_in b_in lies.inner lies.held (λ held.
+      share = shares shape (box_of shape i) (box_of shape j) face a b a_in b_in lies.inner
+          (record { edge = refl; wide = rw edge_too ends_too.0; x_end = rw edge_too ends_too.1; y_end = rw edge_too ends_too.2; z_end = rw edge_too ends_too.3 }) lies.held (λ held.
           let same = is.tiling.apart inside j i id_in_too id_in held (inside_held (box_of shape i) face a b a_in b_in) in
-          not_across_itself shape (box_of shape i) face a b lies.inner (subst (λ k. Holds (box_of shape k) (unit_across (box_of shape i) face a b)) same lies.held));
+          not_across_itself shape (box_of shape i) face a b valid narrow lies.inner (subst (λ k. Holds (box_of shape k) (unit_across shape (box_of shape i) face a b)) same lies.held));
     }
 
 -- a leaf is at least a unit wide
@@ -360,7 +355,7 @@ beside_no_finer shape side leaves i j g h face a b ca cb is has inner are coarse
     inner_beside shape leaves i g face a b some are.ends inner
     ∙ ap (λ s. sample shape s leaves (level_of i) (corner_across shape s i (scale_of (level_of i)) face a b)) are.fits
     ∙ sample_in shape side (level_of i) leaves (j, h) q c are.some is has are.edge coarse
-    (in_across shape side i (box_of shape j) face (scale_of (level_of j)) (side - 1) a b ca cb are.ends.edge are.edge are.share meets)
+    (in_across shape side i (box_of shape j) face (scale_of (level_of j)) (side - 1) a b ca cb are.some are.ends are.ends_too are.share meets)
     ∙ ap (λ s. let k = cell_across face (s - 1) ca cb in cell_at h k.x k.y k.z) (sym are.fits_too)
     ∙ cell_on_face h face ca cb
 
@@ -377,7 +372,7 @@ beside_finer shape side leaves i j g h face a b ca cb is has inner are fine meet
     ∙ ap (λ s. sample shape s leaves (level_of i) (corner_across shape s i (scale_of (level_of i)) face a b)) are.fits
     ∙ mean_in shape side (level_of i) leaves (j, h) q c.x c.y c.z are.some are.even is has are.edge fine
     (subst (IsIn side (box_of shape j) (scale_of (level_of j)) q) (sym (doubled_cell face (side / 2 - 1) ca cb))
-    (in_across shape side i (box_of shape j) face (scale_of (level_of j)) (2 * (side / 2 - 1)) a b (2 * ca) (2 * cb) are.ends.edge are.edge are.share meets))
+    (in_across shape side i (box_of shape j) face (scale_of (level_of j)) (2 * (side / 2 - 1)) a b (2 * ca) (2 * cb) are.some are.ends are.ends_too are.share meets))
     ∙ ap (λ s. let k = cell_across face (s / 2 - 1) ca cb in mean_at h k.x k.y k.z) (sym are.fits_too)
     ∙ mean_on_face h face ca cb
 
@@ -411,13 +406,13 @@ same_beside shape side leaves i j g h face a b valid lies level a_in b_in =
     let edges : other.edge ≡ own.edge = are.edge ∙ scale ∙ sym are.ends.edge in
     let first : first_low face other ≡ first_low face own =
     same_low _ _ own.edge (first_aligned own face (aligned shape i are.shallow)) (subst (IsMultiple (first_low face other)) edges (first_aligned other face (aligned shape j are.shallow_too)))
-    (subst (λ n. Spans (first_low face other) n (first_low face own + 0)) edges (first_spans own other face 0 0 lies.held)) in
+    (subst (λ n. Spans (first_low face other) n (first_low face own + 0)) edges (first_spans shape own other face 0 0 lies.held)) in
     let second : second_low face other ≡ second_low face own =
     same_low _ _ own.edge (second_aligned own face (aligned shape i are.shallow)) (subst (IsMultiple (second_low face other)) edges (second_aligned other face (aligned shape j are.shallow_too)))
-    (subst (λ n. Spans (second_low face other) n (second_low face own + 0)) edges (second_spans own other face 0 0 lies.held)) in
+    (subst (λ n. Spans (second_low face other) n (second_low face own + 0)) edges (second_spans shape own other face 0 0 lies.held)) in
     let meets : MeetsAlong side t e (side - 1) a b a b face own other = record {
-      low = λ low x next. low_along side low t x e (side - 1) 1 next (omega arith) (omega arith) (omega arith) (omega arith);
-      high = λ low x next. high_along side low t x e wide next some;
+      low = λ low. low_along side low t e (side - 1) 1 (omega arith) (omega arith) (omega arith) (omega arith);
+      high = λ low. high_along side low t wide some;
       first = rw (first, scale) (same_along side (first_low face own) e a are.ends.wide a_in);
       second = rw (second, scale) (same_along side (second_low face own) e b are.ends.wide b_in);
     } in
@@ -441,8 +436,8 @@ coarser_beside shape side leaves i j g h face half_a half_b a b valid lies level
     let own_wide = are.ends.wide in
     let some = are.some in
     let meets : MeetsAlong side t e (side - 1) a b (half_a * (side / 2) + a / 2) (half_b * (side / 2) + b / 2) face own other = record {
-      low = λ low x next. low_along side low t x e (side - 1) 1 next (omega arith) (omega arith) (omega arith) (omega arith);
-      high = λ low x next. high_along side low t x e wide next some;
+      low = λ low. low_along side low t e (side - 1) 1 (omega arith) (omega arith) (omega arith) (omega arith);
+      high = λ low. high_along side low t wide some;
       first = coarser_along side (first_low face other) e half_a a (first_low face own) t are.even own_wide bit_a a_in
           (first ∙ ap (λ n. first_low face other + half_a * n) are.ends.edge) scale;
       second = coarser_along side (second_low face other) e half_b b (second_low face own) t are.even own_wide bit_b b_in
@@ -473,13 +468,13 @@ finer_beside shape side leaves i j g h face half_a half_b a b valid bit_a bit_b 
     let double : own.edge ≡ t + t = own_edge ∙ scale in
     let first : first_low face other ≡ first_low face own + half_a * t =
     finer_low _ _ own.edge t half_a double (first_aligned own face (aligned shape i are.shallow)) (subst (IsMultiple (first_low face other)) are.edge (first_aligned other face (aligned shape j are.shallow_too)))
-    (subst (λ n. Spans (first_low face other) t (first_low face own + half_a * n)) half_edge (subst (λ n. Spans (first_low face other) n (first_low face own + off_a)) are.edge (first_spans own other face off_a off_b lies.held))) in
+    (subst (λ n. Spans (first_low face other) t (first_low face own + half_a * n)) half_edge (subst (λ n. Spans (first_low face other) n (first_low face own + off_a)) are.edge (first_spans shape own other face off_a off_b lies.held))) in
     let second : second_low face other ≡ second_low face own + half_b * t =
     finer_low _ _ own.edge t half_b double (second_aligned own face (aligned shape i are.shallow)) (subst (IsMultiple (second_low face other)) are.edge (second_aligned other face (aligned shape j are.shallow_too)))
-    (subst (λ n. Spans (second_low face other) t (second_low face own + half_b * n)) half_edge (subst (λ n. Spans (second_low face other) n (second_low face own + off_b)) are.edge (second_spans own other face off_a off_b lies.held))) in
+    (subst (λ n. Spans (second_low face other) t (second_low face own + half_b * n)) half_edge (subst (λ n. Spans (second_low face other) n (second_low face own + off_b)) are.edge (second_spans shape own other face off_a off_b lies.held))) in
     let meets : MeetsAlong side t e (2 * (side / 2 - 1)) (half_a * (side / 2) + a) (half_b * (side / 2) + b) (2 * a) (2 * b) face own other = record {
-      low = λ low x next. low_along side low t x e (2 * (side / 2 - 1)) 2 next (omega arith) (omega arith) (omega arith) (omega arith);
-      high = λ low x next. high_along side low t x e wide next some;
+      low = λ low. low_along side low t e (2 * (side / 2 - 1)) 2 (omega arith) (omega arith) (omega arith) (omega arith);
+      high = λ low. high_along side low t wide some;
       first = finer_along side (first_low face other) e half_a a (first_low face own) t even wide a_in first scale;
       second = finer_along side (second_low face other) e half_b b (second_low face own) t even wide b_in second scale;
     } in
@@ -496,40 +491,20 @@ levels_near shape side leaves i j g h face a b valid balanced lies a_in b_in =
     let other_in : Contains (ids_of leaves) j = Contains-map (λ (leaf : Leaf). leaf.0) leaves (j, h) lies.other_in in
     let are = across_leaves shape side leaves i j g h face a b valid lies a_in b_in in
     let apart : i ≡ j → ⊥ = λ same.
-    not_across_itself shape (box_of shape i) face a b lies.inner (subst (λ k. Holds (box_of shape k) (unit_across (box_of shape i) face a b)) (sym same) lies.held) in
-    let touch : Touch shape i j = (apart, Meet-from_face face (box_of shape i) (box_of shape j) are.share) in
+    not_across_itself shape (box_of shape i) face a b valid are.narrow lies.inner (subst (λ k. Holds (box_of shape k) (unit_across shape (box_of shape i) face a b)) (sym same) lies.held) in
+    let touch : Touch shape i j = (apart, Meet-from_face shape face (box_of shape i) (box_of shape j) are.share) in
     (balanced i j own_in other_in touch, balanced j i other_in own_in (Touch_sym shape i j touch))
 
--- where the leaf across is one level coarser, the other begins at one of its halves
-pub halves_across : (shape : Shape) (side : ℕ) (leaves : List Leaf) (i j : BlockId) (g h : Grid) (face : Face) → IsShape shape
-    → LiesAcross shape side leaves (i, g) face 0 0 (j, h) → level_of j + 1 ≡ level_of i
-    → let own = box_of shape i in let other = box_of shape j in
-    ((half : ℕ) × (half < 2) × (first_low face own ≡ first_low face other + half * own.edge))
-    × ((half : ℕ) × (half < 2) × (second_low face own ≡ second_low face other + half * own.edge))
-halves_across shape side leaves i j g h face valid lies level =
-    let own = box_of shape i in
-    let other = box_of shape j in
-    let some_units : 0 < own.edge = edge_some shape i lies in
-    let are = across_leaves shape side leaves i j g h face 0 0 valid lies some_units some_units in
-    let e = scale_of (level_of i) in
-    let scale : scale_of (level_of j) ≡ e + e = scale_doubles (level_of j) (level_of i) level are.shallow in
-    let double : other.edge ≡ own.edge + own.edge = are.edge ∙ scale ∙ ap (λ n. n + n) (sym are.ends.edge) in
-    let aligned_own = aligned shape i are.shallow in
-    let aligned_other = aligned shape j are.shallow_too in (
-      coarser_half _ _ own.edge other.edge double some_units (first_aligned own face aligned_own) (first_aligned other face aligned_other) (first_spans own other face 0 0 lies.held),
-      coarser_half _ _ own.edge other.edge double some_units (second_aligned own face aligned_own) (second_aligned other face aligned_other) (second_spans own other face 0 0 lies.held),
-    )
-
 -- a box that has a unit across, by its place along the two axes
-held_from : (own other : Cube) (face : Face) (a b : ℕ) → Holds other (unit_across own face a b)
+held_from : (shape : Shape) (own other : Cube) (face : Face) (a b : ℕ) → Holds other (unit_across shape own face a b)
     → Spans (first_low face other) other.edge (first_low face own + 0) → Spans (second_low face other) other.edge (second_low face own + 0)
-    → Holds other (unit_across own face 0 0)
-held_from own other XLow a b held first second = record { along_x = held.along_x; along_y = first; along_z = second }
-held_from own other XHigh a b held first second = record { along_x = held.along_x; along_y = first; along_z = second }
-held_from own other YLow a b held first second = record { along_y = held.along_y; along_x = first; along_z = second }
-held_from own other YHigh a b held first second = record { along_y = held.along_y; along_x = first; along_z = second }
-held_from own other ZLow a b held first second = record { along_z = held.along_z; along_x = first; along_y = second }
-held_from own other ZHigh a b held first second = record { along_z = held.along_z; along_x = first; along_y = second }
+    → Holds other (unit_across shape own face 0 0)
+held_from shape own other XLow a b held first second = record { along_x = held.along_x; along_y = first; along_z = second }
+held_from shape own other XHigh a b held first second = record { along_x = held.along_x; along_y = first; along_z = second }
+held_from shape own other YLow a b held first second = record { along_y = held.along_y; along_x = first; along_z = second }
+held_from shape own other YHigh a b held first second = record { along_y = held.along_y; along_x = first; along_z = second }
+held_from shape own other ZLow a b held first second = record { along_z = held.along_z; along_x = first; along_y = second }
+held_from shape own other ZHigh a b held first second = record { along_z = held.along_z; along_x = first; along_y = second }
 
 -- where the leaf across is finer at the beginning of a face, it is so beside each quarter
 pub finer_everywhere : (shape : Shape) (side : ℕ) (leaves : List Leaf) (i j k : BlockId) (g h l : Grid) (face : Face) (half_a half_b : ℕ) → IsShape shape
@@ -556,50 +531,68 @@ finer_everywhere shape side leaves i j k g h l face half_a half_b valid balanced
           are.edge ∙ ap (λ (n : ℕ). 2 ^ n) whole ∙ pow-add 2 (4 - level_of i) (level_of i - level_of k) ∙ ap (λ n. n * times) (sym are.ends.edge) in
           let aligned_own = aligned shape i depth in
           let aligned_other = aligned shape k are.shallow_too in
-          let first = no_finer_low _ _ own.edge other.edge times off_a long a_in (first_aligned own face aligned_own) (first_aligned other face aligned_other) (first_spans own other face off_a off_b lies.held) in
-          let second = no_finer_low _ _ own.edge other.edge times off_b long b_in (second_aligned own face aligned_own) (second_aligned other face aligned_other) (second_spans own other face off_a off_b lies.held) in
-          let held = held_from own other face off_a off_b lies.held first second in
-          let same : k ≡ j = lies.map.tiling.apart (unit_across own face 0 0) k j (Contains-map (λ (leaf : Leaf). leaf.0) leaves (k, l) lies.other_in)
+          let first = no_finer_low _ _ own.edge other.edge times off_a long a_in (first_aligned own face aligned_own) (first_aligned other face aligned_other) (first_spans shape own other face off_a off_b lies.held) in
+          let second = no_finer_low _ _ own.edge other.edge times off_b long b_in (second_aligned own face aligned_own) (second_aligned other face aligned_other) (second_spans shape own other face off_a off_b lies.held) in
+          let held = held_from shape own other face off_a off_b lies.held first second in
+          let same : k ≡ j = lies.map.tiling.apart (unit_across shape own face 0 0) k j (Contains-map (λ (leaf : Leaf). leaf.0) leaves (k, l) lies.other_in)
           (Contains-map (λ (leaf : Leaf). leaf.0) leaves (j, h) first_lies.other_in) held first_lies.held in
           ap level_of same ∙ level
     ]
 
 -- the unit across an inner face lies in the domain
 pub across_in_domain : (shape : Shape) (box : Cube) (e : ℕ) (face : Face) (a b : ℕ) → EndsIn shape box e → (IsAtEdge shape box face → ⊥)
-    → a < box.edge → b < box.edge → InDomain shape (unit_across box face a b)
+    → a < box.edge → b < box.edge → InDomain shape (unit_across shape box face a b)
 across_in_domain shape box e XLow a b ends inner a_in b_in =
     let edge = ends.edge in
+    let wide = ends.wide in
     let x_end = ends.x_end in
     let y_end = ends.y_end in
     let z_end = ends.z_end in
-    record { along_x = omega (arith, inner); along_y = omega (arith, inner); along_z = omega (arith, inner) }
+    let some : 0 < 16 * shape.nx = omega arith in
+    let low : box.x < 16 * shape.nx = omega arith in
+    record { along_x = back-below (axis_x shape) box.x inner some low; along_y = omega arith; along_z = omega arith }
 across_in_domain shape box e XHigh a b ends inner a_in b_in =
     let edge = ends.edge in
+    let wide = ends.wide in
     let x_end = ends.x_end in
     let y_end = ends.y_end in
     let z_end = ends.z_end in
-    record { along_x = omega (arith, inner); along_y = omega (arith, inner); along_z = omega (arith, inner) }
+    let some : 0 < 16 * shape.nx = omega arith in
+    let low : box.x < 16 * shape.nx = omega arith in
+    record { along_x = on-below (axis_x shape) box.edge box.x inner some (omega arith); along_y = omega arith; along_z = omega arith }
 across_in_domain shape box e YLow a b ends inner a_in b_in =
     let edge = ends.edge in
+    let wide = ends.wide in
     let x_end = ends.x_end in
     let y_end = ends.y_end in
     let z_end = ends.z_end in
-    record { along_x = omega (arith, inner); along_y = omega (arith, inner); along_z = omega (arith, inner) }
+    let some : 0 < 16 * shape.ny = omega arith in
+    let low : box.y < 16 * shape.ny = omega arith in
+    record { along_y = back-below (axis_y shape) box.y inner some low; along_x = omega arith; along_z = omega arith }
 across_in_domain shape box e YHigh a b ends inner a_in b_in =
     let edge = ends.edge in
+    let wide = ends.wide in
     let x_end = ends.x_end in
     let y_end = ends.y_end in
     let z_end = ends.z_end in
-    record { along_x = omega (arith, inner); along_y = omega (arith, inner); along_z = omega (arith, inner) }
+    let some : 0 < 16 * shape.ny = omega arith in
+    let low : box.y < 16 * shape.ny = omega arith in
+    record { along_y = on-below (axis_y shape) box.edge box.y inner some (omega arith); along_x = omega arith; along_z = omega arith }
 across_in_domain shape box e ZLow a b ends inner a_in b_in =
     let edge = ends.edge in
+    let wide = ends.wide in
     let x_end = ends.x_end in
     let y_end = ends.y_end in
     let z_end = ends.z_end in
-    record { along_x = omega (arith, inner); along_y = omega (arith, inner); along_z = omega (arith, inner) }
+    let some : 0 < 16 * shape.nz = omega arith in
+    let low : box.z < 16 * shape.nz = omega arith in
+    record { along_z = back-below (axis_z shape) box.z inner some low; along_x = omega arith; along_y = omega arith }
 across_in_domain shape box e ZHigh a b ends inner a_in b_in =
     let edge = ends.edge in
+    let wide = ends.wide in
     let x_end = ends.x_end in
     let y_end = ends.y_end in
     let z_end = ends.z_end in
-    record { along_x = omega (arith, inner); along_y = omega (arith, inner); along_z = omega (arith, inner) }
+    let some : 0 < 16 * shape.nz = omega arith in
+    let low : box.z < 16 * shape.nz = omega arith in
+    record { along_z = on-below (axis_z shape) box.edge box.z inner some (omega arith); along_x = omega arith; along_y = omega arith }

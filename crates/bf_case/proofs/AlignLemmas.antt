@@ -1,6 +1,6 @@
 -- Boxes begin at multiples of their edges.
 use Rattle.std.proofs.Common.{◌≡◌, ℕ, ◌+◌, ◌-◌, ◌*◌, ◌/◌, ◌%◌, ◌^◌, ◌<◌, ◌≤◌, List, [], ◌∷◌, length, sym, ap, ◌∙◌, arith, inl, inr, pow-suc, suc-add}
-use Rattle.std.proofs.Math.Nat.{mul-le-mul_left, le_of_mul-le-mul_left}
+use Rattle.std.proofs.Math.Nat.{mul-le-mul_left}
 use Rattle.std.proofs.lemmas.Bool.{cases_lt, cases_order}
 use Rattle.bf_id.specs.declared.shape.Shape.{Shape}
 use Rattle.bf_id.specs.declared.face.Face.{Face}
@@ -71,18 +71,6 @@ finer_low low y e t half double (k, is) (l, is') spans =
     let one = one_multiple l (k + k + half) t (omega arith) (omega arith) in
     is' ∙ ap (λ n. n * t) one ∙ omega arith
 
--- if it is twice as long, that one begins at one of its halves
-pub coarser_half : (low y e t : ℕ) → t ≡ e + e → 0 < e → IsMultiple y e → IsMultiple low t → Spans low t (y + 0)
-    → (half : ℕ) × (half < 2) × (y ≡ low + half * e)
-coarser_half low y e t double wide (k, is) (l, is') spans =
-    let at : low ≡ l * (e + e) = is' ∙ ap (λ n. l * n) double in
-    let least : l + l ≤ k = le_of_mul-le-mul_left (let h : e * (l + l) ≤ e * k = omega arith in h) wide in
-    let most : k < l + l + 2 =
-    elim (cases_lt k (l + l + 2)) [ inl below ↦ below | inr past ↦ absurd (let room : e * (l + l + 2) ≤ e * k = mul-le-mul_left e past in omega arith) ] in
-    let half = k - (l + l) in
-    let whole : k ≡ l + l + half = omega arith in
-    (half, omega arith, is ∙ ap (λ n. n * e) whole ∙ omega arith)
-
 -- a stretch that isn't shorter has the other's first unit where it has one of its units
 pub no_finer_low : (low y e t times off : ℕ) → t ≡ e * times → off < e → IsMultiple y e → IsMultiple low t → Spans low t (y + off) → Spans low t (y + 0)
 no_finer_low low y e t times off long within (k, is) (l, is') spans =
@@ -102,13 +90,13 @@ first_aligned c YHigh is = is.along_x
 first_aligned c ZLow is = is.along_x
 first_aligned c ZHigh is = is.along_x
 
-pub first_spans : (own other : Cube) (face : Face) (a b : ℕ) → Holds other (unit_across own face a b) → Spans (first_low face other) other.edge (first_low face own + a)
-first_spans own other XLow a b held = held.along_y
-first_spans own other XHigh a b held = held.along_y
-first_spans own other YLow a b held = held.along_x
-first_spans own other YHigh a b held = held.along_x
-first_spans own other ZLow a b held = held.along_x
-first_spans own other ZHigh a b held = held.along_x
+pub first_spans : (shape : Shape) (own other : Cube) (face : Face) (a b : ℕ) → Holds other (unit_across shape own face a b) → Spans (first_low face other) other.edge (first_low face own + a)
+first_spans shape own other XLow a b held = held.along_y
+first_spans shape own other XHigh a b held = held.along_y
+first_spans shape own other YLow a b held = held.along_x
+first_spans shape own other YHigh a b held = held.along_x
+first_spans shape own other ZLow a b held = held.along_x
+first_spans shape own other ZHigh a b held = held.along_x
 
 pub second_aligned : (c : Cube) (face : Face) → IsAligned c → IsMultiple (second_low face c) c.edge
 second_aligned c XLow is = is.along_z
@@ -118,10 +106,10 @@ second_aligned c YHigh is = is.along_z
 second_aligned c ZLow is = is.along_y
 second_aligned c ZHigh is = is.along_y
 
-pub second_spans : (own other : Cube) (face : Face) (a b : ℕ) → Holds other (unit_across own face a b) → Spans (second_low face other) other.edge (second_low face own + b)
-second_spans own other XLow a b held = held.along_z
-second_spans own other XHigh a b held = held.along_z
-second_spans own other YLow a b held = held.along_z
-second_spans own other YHigh a b held = held.along_z
-second_spans own other ZLow a b held = held.along_y
-second_spans own other ZHigh a b held = held.along_y
+pub second_spans : (shape : Shape) (own other : Cube) (face : Face) (a b : ℕ) → Holds other (unit_across shape own face a b) → Spans (second_low face other) other.edge (second_low face own + b)
+second_spans shape own other XLow a b held = held.along_z
+second_spans shape own other XHigh a b held = held.along_z
+second_spans shape own other YLow a b held = held.along_z
+second_spans shape own other YHigh a b held = held.along_z
+second_spans shape own other ZLow a b held = held.along_y
+second_spans shape own other ZHigh a b held = held.along_y

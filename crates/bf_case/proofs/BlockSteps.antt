@@ -15,7 +15,7 @@ use Rattle.bf_cells.specs.Kernel.{relaxed_cell, relaxed, relaxed_grid}
 use Rattle.bf_cells.proofs.GridLemmas.{same_tables}
 use Rattle.bf_case.specs.Map.{Leaf, cells_at, ids_of, IsMap, HasCells}
 use Rattle.bf_case.specs.Sample.{scale_of, corner_of, cell_corner, sample}
-use Rattle.bf_case.specs.Stencil.{stepped_value, extent_of, stencil}
+use Rattle.bf_case.specs.Stencil.{stepped_value, extent_of, cells_x, cells_y, cells_z, stencil}
 use Rattle.bf_case.proofs.ListLemmas.{Contains-map}
 use Rattle.bf_case.proofs.SampleLemmas.{own_sample}
 use Rattle.bf_case.proofs.LookupLemmas.{leaf_from_cells_at, cells_at-stencil}
@@ -54,17 +54,17 @@ stepped_at shape leaves i g w stands x y z x_in y_in z_in =
     λ values a b. ap (λ s. get_or values (wall_place s a b) 0) (sym stands.fits) in
     relaxed_same _ _ _ _ _ _ _ _ _ _ _ _ _ _
     (stands.own x y z x_in y_in z_in)
-    (below_along (λ n. at (record p { x = n })) (λ u. cell_at g u y z) corner.x scale g.side x (wall w.x_low y z) stands.wide x_in
+    (below_along (cells_x shape g.side) (λ n. at (record p { x = n })) (λ u. cell_at g u y z) corner.x scale g.side x (wall w.x_low y z) stands.wide x_in
     (λ u u_in. stands.own u y z u_in y_in z_in) (placed w.x_low y z ∙ stands.holds XLow y z y_in z_in))
-    (above_along (λ n. at (record p { x = n })) (λ u. cell_at g u y z) corner.x scale g.side (extent_of g.side shape.nx) x (wall w.x_high y z) stands.wide x_in stands.x_end
+    (above_along (cells_x shape g.side) (λ n. at (record p { x = n })) (λ u. cell_at g u y z) corner.x scale g.side x (wall w.x_high y z) stands.wide x_in stands.x_end
     (λ u u_in. stands.own u y z u_in y_in z_in) (placed w.x_high y z ∙ stands.holds XHigh y z y_in z_in))
-    (below_along (λ n. at (record p { y = n })) (λ u. cell_at g x u z) corner.y scale g.side y (wall w.y_low x z) stands.wide y_in
+    (below_along (cells_y shape g.side) (λ n. at (record p { y = n })) (λ u. cell_at g x u z) corner.y scale g.side y (wall w.y_low x z) stands.wide y_in
     (λ u u_in. stands.own x u z x_in u_in z_in) (placed w.y_low x z ∙ stands.holds YLow x z x_in z_in))
-    (above_along (λ n. at (record p { y = n })) (λ u. cell_at g x u z) corner.y scale g.side (extent_of g.side shape.ny) y (wall w.y_high x z) stands.wide y_in stands.y_end
+    (above_along (cells_y shape g.side) (λ n. at (record p { y = n })) (λ u. cell_at g x u z) corner.y scale g.side y (wall w.y_high x z) stands.wide y_in stands.y_end
     (λ u u_in. stands.own x u z x_in u_in z_in) (placed w.y_high x z ∙ stands.holds YHigh x z x_in z_in))
-    (below_along (λ n. at (record p { z = n })) (λ u. cell_at g x y u) corner.z scale g.side z (wall w.z_low x y) stands.wide z_in
+    (below_along (cells_z shape g.side) (λ n. at (record p { z = n })) (λ u. cell_at g x y u) corner.z scale g.side z (wall w.z_low x y) stands.wide z_in
     (λ u u_in. stands.own x y u x_in y_in u_in) (placed w.z_low x y ∙ stands.holds ZLow x y x_in y_in))
-    (above_along (λ n. at (record p { z = n })) (λ u. cell_at g x y u) corner.z scale g.side (extent_of g.side shape.nz) z (wall w.z_high x y) stands.wide z_in stands.z_end
+    (above_along (cells_z shape g.side) (λ n. at (record p { z = n })) (λ u. cell_at g x y u) corner.z scale g.side z (wall w.z_high x y) stands.wide z_in stands.z_end
     (λ u u_in. stands.own x y u x_in y_in u_in) (placed w.z_high x y ∙ stands.holds ZHigh x y x_in y_in))
 
 -- the cells of the step

@@ -4,7 +4,8 @@ use Rattle.std.specs.Prelude.{AllPairs}
 use Rattle.std.proofs.lemmas.Bool.{both_ways, cases_Bool, cases_lt, cases_order, cond-true, cond-false, cond_both, eqb-true, eq-eqb, ne_eqb}
 use Rattle.std.proofs.lemmas.List.Elements.{All-head, All-contains, Contains-get_or}
 use Rattle.bf_id.specs.declared.shape.Shape.{Shape}
-use Rattle.bf_id.specs.Cube.{Cube, Voxel, Holds, Meet, Within}
+use Rattle.bf_id.specs.Cube.{Cube, Voxel, Holds, Within}
+use Rattle.bf_id.specs.Meeting.{Meet}
 use Rattle.bf_id.specs.Shape.{InDomain}
 use Rattle.bf_id.specs.Id.{BlockId, IsId, InShape, level_of, box_of, child_of, children_of, parent_of, octant_of, Touch, Begins, id_eq}
 use Rattle.bf_id.specs.Tiling.{Tiles, IsBalanced}
@@ -176,8 +177,8 @@ record IsSpread (shape : Shape) (P : Cube → Type 0) : Type 0 where
 Holds-spread : (shape : Shape) (v : Voxel) → IsSpread shape (λ c. Holds c v)
 Holds-spread shape v = record { up = λ c d within holds. Holds-within c d v within holds; down = λ i deep holds. child_holding shape i v deep holds }
 
-Meet-spread : (shape : Shape) (e : Cube) → IsSpread shape (λ c. Meet c e)
-Meet-spread shape e = record { up = λ c d within meets. Meet-within c d e within meets; down = λ i deep meets. child_meeting shape i e deep meets }
+Meet-spread : (shape : Shape) (e : Cube) → IsSpread shape (λ c. Meet shape c e)
+Meet-spread shape e = record { up = λ c d within meets. Meet-within shape c d e within meets; down = λ i deep meets. child_meeting shape i e deep meets }
 
 -- of the old leaves where a new leaf stood, one has such a property with it
 old_with : (shape : Shape) (levels : ℕ) (ids : List BlockId) (target : BlockId → Target) (P : Cube → Type 0) (a : BlockId)
@@ -304,11 +305,11 @@ touching_shift shape levels ids target i j a b is has has' touch p q = by (targe
 
 pub heirs_balanced : (shape : Shape) (levels : ℕ) (ids : List BlockId) (target : BlockId → Target) → IsRegridded shape levels ids target → IsBalanced shape (heirs_in target ids)
 heirs_balanced shape levels ids target is a b has has' touch =
-    let i = old_with shape levels ids target (λ c. Meet c (box_of shape b)) a is (Meet-spread shape (box_of shape b)) has touch.1 in
-    let j = old_with shape levels ids target (λ c. Meet c (box_of shape i.0)) b is (Meet-spread shape (box_of shape i.0)) has' (Meet_sym (box_of shape i.0) (box_of shape b) i.2) in
-    by i.0 j.0 i.1 j.1 (Meet_sym (box_of shape j.0) (box_of shape i.0) j.2) (cases_Bool (id_eq i.0 j.0))
+    let i = old_with shape levels ids target (λ c. Meet shape c (box_of shape b)) a is (Meet-spread shape (box_of shape b)) has touch.1 in
+    let j = old_with shape levels ids target (λ c. Meet shape c (box_of shape i.0)) b is (Meet-spread shape (box_of shape i.0)) has' (Meet_sym shape (box_of shape i.0) (box_of shape b) i.2) in
+    by i.0 j.0 i.1 j.1 (Meet_sym shape (box_of shape j.0) (box_of shape i.0) j.2) (cases_Bool (id_eq i.0 j.0))
   where
-    by : (i j : BlockId) → Comes ids target i a → Comes ids target j b → Meet (box_of shape i) (box_of shape j) → (id_eq i j ≡ true) ⊎ (id_eq i j ≡ false) → level_of a ≤ level_of b + 1
+    by : (i j : BlockId) → Comes ids target i a → Comes ids target j b → Meet shape (box_of shape i) (box_of shape j) → (id_eq i j ≡ true) ⊎ (id_eq i j ≡ false) → level_of a ≤ level_of b + 1
     by i j from from' meets (inl equal) =
         let same : i ≡ j = (id_eq_is_equal i j).0 equal in
         let second : Shifted (target i) (level_of i) (level_of b) =

@@ -17,7 +17,6 @@ pub mod RegridCells
 pub mod MapLemmas
 pub mod LookupLemmas
 pub mod BoxLemmas
-pub mod Axis
 pub mod RootSteps
 pub mod RootsAround
 pub mod RootModel
@@ -26,3 +25,4 @@ pub mod BlockSteps
 pub mod FinestLemmas
 pub mod AcrossLemmas
 pub mod AlignLemmas
+pub mod FaceLemmas

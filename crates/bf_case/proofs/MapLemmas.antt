@@ -1,5 +1,5 @@
 -- Maps stay maps: at the beginning, over a step, and where no leaf is ever refined over a regrid.
-use Rattle.std.proofs.Common.{◌≡◌, ℕ, zero, suc, ◌+◌, ◌-◌, ◌*◌, ◌%◌, ◌^◌, ◌<◌, ◌≤◌, Bool, false, ◌&&◌, ◌||◌, if◌then◌else◌, List, [], ◌∷◌, get_or, map, fold, filter, Option, None, Some, inl, inr, Contains, refl, sym, ap, subst, ◌∙◌, arith, All, lit<, ◌==◌}
+use Rattle.std.proofs.Common.{◌≡◌, ℕ, zero, suc, ◌+◌, ◌*◌, ◌%◌, ◌^◌, ◌<◌, ◌≤◌, Bool, false, ◌&&◌, ◌||◌, if◌then◌else◌, List, [], ◌∷◌, get_or, map, fold, filter, Option, None, Some, inl, inr, Contains, refl, sym, ap, subst, ◌∙◌, arith, All, lit<, ◌==◌}
 use Rattle.std.specs.Prelude.{AllPairs, nat_lt}
 use Rattle.std.specs.List.{range_with_len, list_any}
 use Rattle.std.specs.Option.{option_map_or}
@@ -12,6 +12,7 @@ use Rattle.std.proofs.lemmas.Simd.{map-map}
 use Rattle.std.proofs.lemmas.List.Elements.{All-nil, All-head, All-tail, All-map, All-weaker, Contains-get_or}
 use Rattle.bf_id.specs.declared.shape.Shape.{Shape}
 use Rattle.bf_id.specs.Cube.{Voxel}
+use Rattle.bf_id.specs.Axis.{is_first, is_last, back, on}
 use Rattle.bf_id.specs.Shape.{IsShape, root_count}
 use Rattle.bf_id.specs.Id.{BlockId, IsId, InShape, level_of, root_id, touches, parent_of}
 use Rattle.bf_id.specs.Tiling.{Tiles}
@@ -25,7 +26,7 @@ use Rattle.bf_case.specs.declared.case.Fill.{Fill}
 use Rattle.bf_case.specs.Case.{IsValid, IsFill}
 use Rattle.bf_case.specs.Map.{Leaf, ids_of, cells_at, HasCells, IsMap}
 use Rattle.bf_case.specs.Sample.{scale_of, moved, cell_corner, sample}
-use Rattle.bf_case.specs.Stencil.{extent_of, stepped_value, stencil}
+use Rattle.bf_case.specs.Stencil.{stepped_value, stencil, cells_x, cells_y, cells_z}
 use Rattle.bf_case.specs.Wishes.{Wishes, wishes_of}
 use Rattle.bf_case.specs.Refinement.{is_among, refined_within, refined_ids}
 use Rattle.bf_case.specs.Merging.{merges}
@@ -60,19 +61,19 @@ stepped_small shape side leaves level p cells =
     let small : (q : Voxel) → at q < 2 ^ 32 = λ q. sample_small shape side leaves level q cells in
     let one : (b : Bool) (q : Voxel) → (if b then at p else at q) < 2 ^ 32 = λ b q. either_small b (at p) (at q) (small p) (small q) in
     relaxed_small (at p)
-    (if p.x == 0 then at p else at (record p { x = p.x - scale }))
-    (if p.x + scale == extent_of side shape.nx then at p else at (record p { x = p.x + scale }))
-    (if p.y == 0 then at p else at (record p { y = p.y - scale }))
-    (if p.y + scale == extent_of side shape.ny then at p else at (record p { y = p.y + scale }))
-    (if p.z == 0 then at p else at (record p { z = p.z - scale }))
-    (if p.z + scale == extent_of side shape.nz then at p else at (record p { z = p.z + scale }))
+    (if is_first (cells_x shape side) p.x then at p else at (record p { x = back (cells_x shape side) scale p.x }))
+    (if is_last (cells_x shape side) (p.x + scale) then at p else at (record p { x = on (cells_x shape side) scale p.x }))
+    (if is_first (cells_y shape side) p.y then at p else at (record p { y = back (cells_y shape side) scale p.y }))
+    (if is_last (cells_y shape side) (p.y + scale) then at p else at (record p { y = on (cells_y shape side) scale p.y }))
+    (if is_first (cells_z shape side) p.z then at p else at (record p { z = back (cells_z shape side) scale p.z }))
+    (if is_last (cells_z shape side) (p.z + scale) then at p else at (record p { z = on (cells_z shape side) scale p.z }))
     (small p)
-    (one (p.x == 0) (record p { x = p.x - scale }))
-    (one (p.x + scale == extent_of side shape.nx) (record p { x = p.x + scale }))
-    (one (p.y == 0) (record p { y = p.y - scale }))
-    (one (p.y + scale == extent_of side shape.ny) (record p { y = p.y + scale }))
-    (one (p.z == 0) (record p { z = p.z - scale }))
-    (one (p.z + scale == extent_of side shape.nz) (record p { z = p.z + scale }))
+    (one (is_first (cells_x shape side) p.x) (record p { x = back (cells_x shape side) scale p.x }))
+    (one (is_last (cells_x shape side) (p.x + scale)) (record p { x = on (cells_x shape side) scale p.x }))
+    (one (is_first (cells_y shape side) p.y) (record p { y = back (cells_y shape side) scale p.y }))
+    (one (is_last (cells_y shape side) (p.y + scale)) (record p { y = on (cells_y shape side) scale p.y }))
+    (one (is_first (cells_z shape side) p.z) (record p { z = back (cells_z shape side) scale p.z }))
+    (one (is_last (cells_z shape side) (p.z + scale)) (record p { z = on (cells_z shape side) scale p.z }))
 
 -- a step keeps the leaves
 pub ids_of-stencil : (shape : Shape) (side : ℕ) (leaves : List Leaf) → ids_of (stencil shape side leaves) ≡ ids_of leaves

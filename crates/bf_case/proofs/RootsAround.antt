@@ -1,47 +1,175 @@
--- The roots around a root, by their numbers.
-use Rattle.std.proofs.Common.{◌≡◌, ℕ, ◌+◌, ◌*◌, ◌/◌, ◌%◌, ◌<◌, arith}
+-- What lies around a root: the root across each face has the unit across it, and the walls around a root hold the samples beyond its faces.
+use Rattle.std.proofs.Common.{◌≡◌, ℕ, ◌+◌, ◌*◌, ◌<◌, Option, None, Some, inl, inr, List, get_or, Contains, refl, sym, ◌∙◌, ap, subst, arith}
+use Rattle.std.specs.Prelude.{option_map}
+use Rattle.std.proofs.lemmas.List.Elements.{All-contains, Contains-get_or}
 use Rattle.bf_id.specs.declared.shape.Shape.{Shape}
+use Rattle.bf_id.specs.declared.face.Face.{Face}
 use Rattle.bf_id.specs.declared.face.Face.TheVariants.{XLow, XHigh, YLow, YHigh, ZLow, ZHigh}
-use Rattle.bf_id.specs.Shape.{IsShape, root_count}
-use Rattle.bf_id.proofs.Boxes.{root_from_coordinates, root_below, root_in_domain}
+use Rattle.bf_id.specs.Face.{number_of, opposite_of}
+use Rattle.bf_id.specs.Axis.{back, on}
+use Rattle.bf_id.specs.Cube.{Voxel, Spans, Holds}
+use Rattle.bf_id.specs.Shape.{IsShape, root_count, root_cube}
+use Rattle.bf_id.specs.Id.{BlockId, root_id}
+use Rattle.bf_id.proofs.Boxes.{root_coordinates, root_below, root_in_domain}
+use Rattle.bf_id.proofs.Steps.{back-below, on-below, back_spans, on_spans, before_cases, after_cases, first_in_parts, last_in_parts}
 use Rattle.bf_cells.specs.Grid.{Grid}
-use Rattle.bf_cells.specs.Shell.{Walls, with_wall}
-use Rattle.bf_case.specs.Around.{across, wall_from, walls_around}
-use Rattle.bf_case.proofs.RootSteps.{x_on, y_on, z_on}
+use Rattle.bf_cells.specs.Shell.{Walls, wall_of, wall_place, with_wall, face_values}
+use Rattle.bf_cells.proofs.WallLemmas.{get_or-face_values}
+use Rattle.bf_case.specs.Map.{Leaf, IsMap, HasCells}
+use Rattle.bf_case.specs.Beside.{IsAtEdge, HoldSamples, unit_across, value_beside}
+use Rattle.bf_case.specs.Around.{across, root_at, roots_x, roots_y, roots_z, x_of, y_of, z_of, AreRootIds, grid_at, nothing, wall_from, walls_around}
+use Rattle.bf_case.proofs.RootSteps.{roots_are}
+use Rattle.bf_case.proofs.AcrossLemmas.{edge_beside, same_beside}
 
--- the next root, the root one row on, and the root one layer on
-pub x_next_in : (shape : Shape) (k : ℕ) → IsShape shape → k < root_count shape → k % shape.nx + 1 < shape.nx → k + 1 < root_count shape
-x_next_in shape k valid k_in more =
-    let x = k % shape.nx in
-    let y = k / shape.nx % shape.ny in
-    let z = k / shape.nx / shape.ny in
-    let inside = root_in_domain shape k valid k_in in
-    let is = root_from_coordinates shape.nx shape.ny k in
-    omega (arith, is, x_on shape.nx shape.ny x y z, root_below shape.nx shape.ny shape.nz (x + 1) y z more inside.1 inside.2)
+-- ---- the root across
 
-pub y_next_in : (shape : Shape) (k : ℕ) → IsShape shape → k < root_count shape → k / shape.nx % shape.ny + 1 < shape.ny → k + shape.nx < root_count shape
-y_next_in shape k valid k_in more =
-    let x = k % shape.nx in
-    let y = k / shape.nx % shape.ny in
-    let z = k / shape.nx / shape.ny in
-    let inside = root_in_domain shape k valid k_in in
-    let is = root_from_coordinates shape.nx shape.ny k in
-    omega (arith, is, y_on shape.nx shape.ny x y z, root_below shape.nx shape.ny shape.nz x (y + 1) z inside.0 more inside.2)
+-- the root at these coordinates holds what lies over them
+root_holds : (shape : Shape) (x y z : ℕ) (v : Voxel) → x < shape.nx → y < shape.ny → Spans (16 * x) 16 v.x → Spans (16 * y) 16 v.y → Spans (16 * z) 16 v.z
+    → Holds (root_cube shape (root_at shape x y z)) v
+root_holds shape x y z v x_in y_in along_x along_y along_z =
+    let at = root_coordinates shape.nx shape.ny x y z x_in y_in in
+    record { along_x = rw at.0 along_x; along_y = rw at.1 along_y; along_z = rw at.2 along_z }
 
-pub z_next_in : (shape : Shape) (k : ℕ) → IsShape shape → k < root_count shape → k / shape.nx / shape.ny + 1 < shape.nz → k + shape.nx * shape.ny < root_count shape
-z_next_in shape k valid k_in more =
-    let x = k % shape.nx in
-    let y = k / shape.nx % shape.ny in
-    let z = k / shape.nx / shape.ny in
-    let inside = root_in_domain shape k valid k_in in
-    let is = root_from_coordinates shape.nx shape.ny k in
-    omega (arith, is, z_on shape.nx shape.ny x y z, root_below shape.nx shape.ny shape.nz x y (z + 1) inside.0 inside.1 more)
+-- across a face there is nothing at the domain's edge, and elsewhere a root that has the unit across
+abbrev pub LiesAt : Shape → ℕ → Face → Option ℕ → Type 0
+LiesAt shape k face None = IsAtEdge shape (root_cube shape k) face
+LiesAt shape k face (Some j) =
+    (j < root_count shape) × (IsAtEdge shape (root_cube shape k) face → ⊥) × Holds (root_cube shape j) (unit_across shape (root_cube shape k) face 0 0)
+
+pub across_lies : (shape : Shape) (k : ℕ) (face : Face) → IsShape shape → k < root_count shape → LiesAt shape k face (across shape k face)
+across_lies shape k face is below = by face
+  where
+    inside : (x_of shape k < shape.nx) × (y_of shape k < shape.ny) × (z_of shape k < shape.nz)
+    inside = root_in_domain shape k is below
+
+    by : (face : Face) → LiesAt shape k face (across shape k face)
+    by XLow = elim (before_cases (roots_x shape) (x_of shape k)) [
+      | inl first ↦ subst (λ o. LiesAt shape k XLow (option_map (λ x. root_at shape x (y_of shape k) (z_of shape k)) o)) (sym first.0) ((first_in_parts (roots_x shape) 16 (x_of shape k) (omega arith)).0 first.1)
+      | inr inner ↦
+          let j = back (roots_x shape) 1 (x_of shape k) in
+          let j_in : j < shape.nx = back-below (roots_x shape) (x_of shape k) inner.1 is.some_x inside.0 in
+          subst (λ o. LiesAt shape k XLow (option_map (λ x. root_at shape x (y_of shape k) (z_of shape k)) o)) (sym inner.0) (
+            root_below shape.nx shape.ny shape.nz j (y_of shape k) (z_of shape k) j_in inside.1 inside.2,
+            (λ at. inner.1 ((first_in_parts (roots_x shape) 16 (x_of shape k) (omega arith)).1 at)),
+            root_holds shape j (y_of shape k) (z_of shape k) _ j_in inside.1 (back_spans (roots_x shape) 16 (x_of shape k) inner.1 (omega arith) inside.0) (omega arith, omega arith) (omega arith, omega arith),
+          )
+    ]
+    by XHigh = elim (after_cases (roots_x shape) (x_of shape k)) [
+      | inl last ↦ subst (λ o. LiesAt shape k XHigh (option_map (λ x. root_at shape x (y_of shape k) (z_of shape k)) o)) (sym last.0) ((last_in_parts (roots_x shape) 16 (x_of shape k + 1) (16 * x_of shape k + 16) (omega arith) (omega arith)).0 last.1)
+      | inr inner ↦
+          let j = on (roots_x shape) 1 (x_of shape k) in
+          let j_in : j < shape.nx = on-below (roots_x shape) 1 (x_of shape k) inner.1 is.some_x (let h = inside.0 in omega arith) in
+          subst (λ o. LiesAt shape k XHigh (option_map (λ x. root_at shape x (y_of shape k) (z_of shape k)) o)) (sym inner.0) (
+            root_below shape.nx shape.ny shape.nz j (y_of shape k) (z_of shape k) j_in inside.1 inside.2,
+            (λ at. inner.1 ((last_in_parts (roots_x shape) 16 (x_of shape k + 1) (16 * x_of shape k + 16) (omega arith) (omega arith)).1 at)),
+            root_holds shape j (y_of shape k) (z_of shape k) _ j_in inside.1 (on_spans (roots_x shape) 16 (x_of shape k) (omega arith) inside.0) (omega arith, omega arith) (omega arith, omega arith),
+          )
+    ]
+    by YLow = elim (before_cases (roots_y shape) (y_of shape k)) [
+      | inl first ↦ subst (λ o. LiesAt shape k YLow (option_map (λ y. root_at shape (x_of shape k) y (z_of shape k)) o)) (sym first.0) ((first_in_parts (roots_y shape) 16 (y_of shape k) (omega arith)).0 first.1)
+      | inr inner ↦
+          let j = back (roots_y shape) 1 (y_of shape k) in
+          let j_in : j < shape.ny = back-below (roots_y shape) (y_of shape k) inner.1 is.some_y inside.1 in
+          subst (λ o. LiesAt shape k YLow (option_map (λ y. root_at shape (x_of shape k) y (z_of shape k)) o)) (sym inner.0) (
+            root_below shape.nx shape.ny shape.nz (x_of shape k) j (z_of shape k) inside.0 j_in inside.2,
+            (λ at. inner.1 ((first_in_parts (roots_y shape) 16 (y_of shape k) (omega arith)).1 at)),
+            root_holds shape (x_of shape k) j (z_of shape k) _ inside.0 j_in (omega arith, omega arith) (back_spans (roots_y shape) 16 (y_of shape k) inner.1 (omega arith) inside.1) (omega arith, omega arith),
+          )
+    ]
+    by YHigh = elim (after_cases (roots_y shape) (y_of shape k)) [
+      | inl last ↦ subst (λ o. LiesAt shape k YHigh (option_map (λ y. root_at shape (x_of shape k) y (z_of shape k)) o)) (sym last.0) ((last_in_parts (roots_y shape) 16 (y_of shape k + 1) (16 * y_of shape k + 16) (omega arith) (omega arith)).0 last.1)
+      | inr inner ↦
+          let j = on (roots_y shape) 1 (y_of shape k) in
+          let j_in : j < shape.ny = on-below (roots_y shape) 1 (y_of shape k) inner.1 is.some_y (let h = inside.1 in omega arith) in
+          subst (λ o. LiesAt shape k YHigh (option_map (λ y. root_at shape (x_of shape k) y (z_of shape k)) o)) (sym inner.0) (
+            root_below shape.nx shape.ny shape.nz (x_of shape k) j (z_of shape k) inside.0 j_in inside.2,
+            (λ at. inner.1 ((last_in_parts (roots_y shape) 16 (y_of shape k + 1) (16 * y_of shape k + 16) (omega arith) (omega arith)).1 at)),
+            root_holds shape (x_of shape k) j (z_of shape k) _ inside.0 j_in (omega arith, omega arith) (on_spans (roots_y shape) 16 (y_of shape k) (omega arith) inside.1) (omega arith, omega arith),
+          )
+    ]
+    by ZLow = elim (before_cases (roots_z shape) (z_of shape k)) [
+      | inl first ↦ subst (λ o. LiesAt shape k ZLow (option_map (λ z. root_at shape (x_of shape k) (y_of shape k) z) o)) (sym first.0) ((first_in_parts (roots_z shape) 16 (z_of shape k) (omega arith)).0 first.1)
+      | inr inner ↦
+          let j = back (roots_z shape) 1 (z_of shape k) in
+          let j_in : j < shape.nz = back-below (roots_z shape) (z_of shape k) inner.1 is.some_z inside.2 in
+          subst (λ o. LiesAt shape k ZLow (option_map (λ z. root_at shape (x_of shape k) (y_of shape k) z) o)) (sym inner.0) (
+            root_below shape.nx shape.ny shape.nz (x_of shape k) (y_of shape k) j inside.0 inside.1 j_in,
+            (λ at. inner.1 ((first_in_parts (roots_z shape) 16 (z_of shape k) (omega arith)).1 at)),
+            root_holds shape (x_of shape k) (y_of shape k) j _ inside.0 inside.1 (omega arith, omega arith) (omega arith, omega arith) (back_spans (roots_z shape) 16 (z_of shape k) inner.1 (omega arith) inside.2),
+          )
+    ]
+    by ZHigh = elim (after_cases (roots_z shape) (z_of shape k)) [
+      | inl last ↦ subst (λ o. LiesAt shape k ZHigh (option_map (λ z. root_at shape (x_of shape k) (y_of shape k) z) o)) (sym last.0) ((last_in_parts (roots_z shape) 16 (z_of shape k + 1) (16 * z_of shape k + 16) (omega arith) (omega arith)).0 last.1)
+      | inr inner ↦
+          let j = on (roots_z shape) 1 (z_of shape k) in
+          let j_in : j < shape.nz = on-below (roots_z shape) 1 (z_of shape k) inner.1 is.some_z (let h = inside.2 in omega arith) in
+          subst (λ o. LiesAt shape k ZHigh (option_map (λ z. root_at shape (x_of shape k) (y_of shape k) z) o)) (sym inner.0) (
+            root_below shape.nx shape.ny shape.nz (x_of shape k) (y_of shape k) j inside.0 inside.1 j_in,
+            (λ at. inner.1 ((last_in_parts (roots_z shape) 16 (z_of shape k + 1) (16 * z_of shape k + 16) (omega arith) (omega arith)).1 at)),
+            root_holds shape (x_of shape k) (y_of shape k) j _ inside.0 inside.1 (omega arith, omega arith) (omega arith, omega arith) (on_spans (roots_z shape) 16 (z_of shape k) (omega arith) inside.2),
+          )
+    ]
+
+-- ---- the walls around
+
+-- the wall at a face is laid from the root across it
+wall_is : (shape : Shape) (side : ℕ) (grid : ℕ → Grid) (k : ℕ) (face : Face) → wall_of (walls_around shape side grid k) (number_of face) ≡ wall_from grid k (across shape k face) face
+unfolding wall_of walls_around
+wall_is shape side grid k XLow = refl
+wall_is shape side grid k XHigh = refl
+wall_is shape side grid k YLow = refl
+wall_is shape side grid k YHigh = refl
+wall_is shape side grid k ZLow = refl
+wall_is shape side grid k ZHigh = refl
+
+-- a root is a leaf of a map of the roots
+root_in_leaves : (shape : Shape) (leaves : List Leaf) (k : ℕ) → AreRootIds shape leaves → k < root_count shape → Contains leaves (root_id k, grid_at leaves k)
+root_in_leaves shape leaves k roots below =
+    let leaf = get_or leaves k nothing in
+    let are = roots_are shape leaves roots in
+    let named : BlockId → Leaf = λ i. (i, leaf.1) in
+    subst (Contains leaves) (ap named (are.1 k nothing below)) (Contains-get_or leaves k nothing (omega (arith, are.0)))
+
+-- in a map of the roots the walls around a root hold the samples beyond its faces
+pub root_walls_hold : (shape : Shape) (side : ℕ) (leaves : List Leaf) (k : ℕ) → IsShape shape → IsMap shape side leaves → AreRootIds shape leaves → k < root_count shape
+    → HoldSamples shape leaves (root_id k) (grid_at leaves k) (walls_around shape side (grid_at leaves) k)
+unfolding walls_around
+root_walls_hold shape side leaves k valid is roots below face a b a_in b_in =
+    ap (λ wall. get_or wall (wall_place side a b) 0) (wall_is shape side (grid_at leaves) k face) ∙ by (across shape k face) (across_lies shape k face valid below)
+  where
+    g : Grid
+    g = grid_at leaves k
+
+    has : Contains leaves (root_id k, grid_at leaves k)
+    has = root_in_leaves shape leaves k roots below
+
+    fits : (j : ℕ) → Contains leaves (root_id j, grid_at leaves j) → (grid_at leaves j).side ≡ side
+    fits j has = (All-contains (HasCells side) leaves (root_id j, grid_at leaves j) is.cells has).fits
+
+    by : (o : Option ℕ) → LiesAt shape k face o → get_or (wall_from (grid_at leaves) k o face) (wall_place side a b) 0 ≡ value_beside shape leaves (root_id k) (grid_at leaves k) face a b
+    by None at =
+        ap (λ s. get_or (face_values (grid_at leaves k) (number_of face)) (wall_place s a b) 0) (sym (fits k has))
+        ∙ get_or-face_values (grid_at leaves k) (number_of face) a b a_in b_in
+        ∙ sym (edge_beside shape leaves (root_id k) (grid_at leaves k) face a b (omega arith) refl at)
+    by (Some j) (j_in, inner, held) =
+        let has' = root_in_leaves shape leaves j roots j_in in
+        let h = grid_at leaves j in
+        let same : h.side ≡ side = fits j has' in
+        let own : (grid_at leaves k).side ≡ side = fits k has in
+        ap (λ s. get_or (face_values h (number_of (opposite_of face))) (wall_place s a b) 0) (sym same)
+        ∙ get_or-face_values h (number_of (opposite_of face)) a b (omega arith) (omega arith)
+        ∙ sym (same_beside shape side leaves (root_id k) (root_id j) (grid_at leaves k) h face a b valid
+        (record { map = is; own_in = has; other_in = has'; inner = inner; held = held }) refl (omega arith) (omega arith))
 
 -- six walls laid in turn are all that lies around the root
-pub walls_laid : (shape : Shape) (grid : ℕ → Grid) (k : ℕ) (w a b c : Walls)
-    → a ≡ with_wall (with_wall w 0 (wall_from grid k (across shape k XLow) XLow)) 1 (wall_from grid k (across shape k XHigh) XHigh)
-    → b ≡ with_wall (with_wall a 2 (wall_from grid k (across shape k YLow) YLow)) 3 (wall_from grid k (across shape k YHigh) YHigh)
-    → c ≡ with_wall (with_wall b 4 (wall_from grid k (across shape k ZLow) ZLow)) 5 (wall_from grid k (across shape k ZHigh) ZHigh)
-    → c ≡ walls_around shape w.side grid k
+pub walls_laid : (shape : Shape) (grid : ℕ → Grid) (k : ℕ) (w a b c d e f : Walls) (o p q r s t : Option ℕ)
+    → o ≡ across shape k XLow → a ≡ with_wall w 0 (wall_from grid k o XLow)
+    → p ≡ across shape k XHigh → b ≡ with_wall a 1 (wall_from grid k p XHigh)
+    → q ≡ across shape k YLow → c ≡ with_wall b 2 (wall_from grid k q YLow)
+    → r ≡ across shape k YHigh → d ≡ with_wall c 3 (wall_from grid k r YHigh)
+    → s ≡ across shape k ZLow → e ≡ with_wall d 4 (wall_from grid k s ZLow)
+    → t ≡ across shape k ZHigh → f ≡ with_wall e 5 (wall_from grid k t ZHigh)
+    → f ≡ walls_around shape w.side grid k
 unfolding with_wall walls_around
-walls_laid shape grid k w a b c along_x along_y along_z = rw (along_z, along_y, along_x)
+walls_laid shape grid k w a b c d e f o p q r s t o_is a_is p_is b_is q_is c_is r_is d_is s_is e_is t_is f_is =
+    rw (f_is, e_is, d_is, c_is, b_is, a_is, o_is, p_is, q_is, r_is, s_is, t_is)

@@ -1,17 +1,18 @@
 -- What the tests of boxes and of ids say.
-use Rattle.std.proofs.Common.{◌≡◌, ℕ, ◌+◌, ◌≤◌, Bool, true, false, not, ◌&&◌, List, [], ◌∷◌, ◌⊎◌, inl, inr, Contains, Decides, filter, refl, ◌∙◌}
+use Rattle.std.proofs.Common.{◌≡◌, ℕ, ◌+◌, Bool, true, false, not, ◌&&◌, List, [], ◌∷◌, ◌⊎◌, inl, inr, Contains, Decides, filter, refl, ◌∙◌}
 use Rattle.std.specs.Prelude.{nat_le, nat_lt}
 use Rattle.std.specs.List.{list_any}
-use Rattle.std.proofs.lemmas.Bool.{leb-true, le-leb, cases_Bool, cond-false, both_ways, or_left, or_right, or_cases, false≢true}
+use Rattle.std.proofs.lemmas.Bool.{cases_Bool, cond-false, both_ways, or_left, or_right, or_cases, false≢true}
 use Rattle.std.proofs.lemmas.Bool.Decides.{Decides-ltb, Decides-and, Decides-not, Decides-like}
 use Rattle.bf_id.specs.declared.shape.Shape.{Shape}
-use Rattle.bf_id.specs.Cube.{Cube, Voxel, Spans, Holds, Meets, Meet, spans, holds, meets, meet}
+use Rattle.bf_id.specs.Cube.{Cube, Voxel, Spans, Holds, spans, holds}
+use Rattle.bf_id.specs.Axis.{MeetsOn, meets_on}
+use Rattle.bf_id.proofs.Axes.{Decides-leb, meets_on_decides}
+use Rattle.bf_id.specs.Meeting.{Meet, meet}
+use Rattle.bf_id.specs.Shape.{axis_x, axis_y, axis_z}
 use Rattle.bf_id.specs.Id.{BlockId, box_of, id_eq, Touch, touches}
 use Rattle.bf_id.proofs.Boxes.{id_eq_is_equal}
 use Rattle.bf_id.proofs.Tilings.{Contains-head, Contains-tail, Contains-cons_cases, Contains-none}
-
-pub Decides-leb : (a b : ℕ) → Decides (nat_le a b) (a ≤ b)
-Decides-leb a b = (leb-true a b, le-leb a b)
 
 pub spans_decides : (low length u : ℕ) → Decides (spans low length u) (Spans low length u)
 spans_decides low length u = Decides-and (nat_le low u) (nat_lt u (low + length)) (Decides-leb low u) (Decides-ltb u (low + length))
@@ -26,24 +27,22 @@ holds_decides c v =
     (λ (h : Holds c v). ((h.along_x, h.along_y), h.along_z))
     (Decides-and (x && y) z (Decides-and x y (spans_decides c.x c.edge v.x) (spans_decides c.y c.edge v.y)) (spans_decides c.z c.edge v.z))
 
-pub meets_decides : (low length other other_length : ℕ) → Decides (meets low length other other_length) (Meets low length other other_length)
-meets_decides low length other other_length =
-    Decides-and (nat_le low (other + other_length)) (nat_le other (low + length)) (Decides-leb low (other + other_length)) (Decides-leb other (low + length))
-
-pub meet_decides : (c d : Cube) → Decides (meet c d) (Meet c d)
-meet_decides c d =
-    let x = meets c.x c.edge d.x d.edge in
-    let y = meets c.y c.edge d.y d.edge in
-    let z = meets c.z c.edge d.z d.edge in
-    Decides-like (meet c d)
-    (λ (all : (Meets c.x c.edge d.x d.edge × Meets c.y c.edge d.y d.edge) × Meets c.z c.edge d.z d.edge). record { along_x = all.0.0; along_y = all.0.1; along_z = all.1 })
-    (λ (h : Meet c d). ((h.along_x, h.along_y), h.along_z))
-    (Decides-and (x && y) z (Decides-and x y (meets_decides c.x c.edge d.x d.edge) (meets_decides c.y c.edge d.y d.edge)) (meets_decides c.z c.edge d.z d.edge))
+pub meet_decides : (shape : Shape) (c d : Cube) → Decides (meet shape c d) (Meet shape c d)
+meet_decides shape c d =
+    let x = meets_on (axis_x shape) c.x c.edge d.x d.edge in
+    let y = meets_on (axis_y shape) c.y c.edge d.y d.edge in
+    let z = meets_on (axis_z shape) c.z c.edge d.z d.edge in
+    Decides-like (meet shape c d)
+    (λ (all : (MeetsOn (axis_x shape) c.x c.edge d.x d.edge × MeetsOn (axis_y shape) c.y c.edge d.y d.edge) × MeetsOn (axis_z shape) c.z c.edge d.z d.edge). record { along_x = all.0.0; along_y = all.0.1; along_z = all.1 })
+    (λ (h : Meet shape c d). ((h.along_x, h.along_y), h.along_z))
+    (Decides-and (x && y) z
+    (Decides-and x y (meets_on_decides (axis_x shape) c.x c.edge d.x d.edge) (meets_on_decides (axis_y shape) c.y c.edge d.y d.edge))
+    (meets_on_decides (axis_z shape) c.z c.edge d.z d.edge))
 
 pub touches_decides : (shape : Shape) (i j : BlockId) → Decides (touches shape i j) (Touch shape i j)
 touches_decides shape i j =
-    Decides-and (not (id_eq i j)) (meet (box_of shape i) (box_of shape j))
-    (Decides-not (id_eq i j) (id_eq_is_equal i j)) (meet_decides (box_of shape i) (box_of shape j))
+    Decides-and (not (id_eq i j)) (meet shape (box_of shape i) (box_of shape j))
+    (Decides-not (id_eq i j) (id_eq_is_equal i j)) (meet_decides shape (box_of shape i) (box_of shape j))
 
 -- ---- lists
 

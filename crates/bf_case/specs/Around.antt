@@ -1,8 +1,9 @@
 -- What lies around a root, where the leaves are the roots: each is named by its number, where x runs fastest, then y, then z.
-use Rattle.std.specs.Prelude.{◌≡◌, ◌⊎◌, ℕ, ◌+◌, ◌-◌, ◌*◌, ◌/◌, ◌%◌, ◌==◌, if◌then◌else◌, List, [], Option, Some, None}
+use Rattle.std.specs.Prelude.{◌≡◌, ◌⊎◌, ℕ, ◌+◌, ◌*◌, ◌/◌, ◌%◌, List, [], Option, Some, None, option_map}
 use Rattle.std.specs.List.{slice_index_or}
 use Rattle.bf_id.specs.declared.shape.Shape.{Shape}
 use Rattle.bf_id.specs.declared.face.Face.{Face}
+use Rattle.bf_id.specs.Axis.{Axis, before, after}
 use Rattle.bf_id.specs.declared.face.Face.TheVariants.{XLow, XHigh, YLow, YHigh, ZLow, ZHigh}
 use Rattle.bf_id.specs.Face.{number_of, opposite_of}
 use Rattle.bf_id.specs.Id.{root_id}
@@ -11,22 +12,37 @@ use Rattle.bf_cells.specs.Shell.{Walls, face_values}
 use Rattle.bf_case.specs.Map.{Leaf, ids_of}
 use Rattle.bf_case.specs.Model.{root_ids}
 
--- the root so many numbers before, or none where this root is the first of its row
-abbrev pub place_before : ℕ → ℕ → ℕ → Option ℕ
-place_before at k step = if at == 0 then None else Some (k - step)
+-- the three axes, in roots
+abbrev pub roots_x : Shape → Axis
+roots_x shape = record { extent = shape.nx }
 
--- the root so many numbers after, or none where this root is the last of its row
-abbrev pub place_after : ℕ → ℕ → ℕ → ℕ → Option ℕ
-place_after at count k step = if at + 1 == count then None else Some (k + step)
+abbrev pub roots_y : Shape → Axis
+roots_y shape = record { extent = shape.ny }
+
+abbrev pub roots_z : Shape → Axis
+roots_z shape = record { extent = shape.nz }
+
+-- the coordinates of a root, and the root at these coordinates
+abbrev pub x_of : Shape → ℕ → ℕ
+x_of shape k = k % shape.nx
+
+abbrev pub y_of : Shape → ℕ → ℕ
+y_of shape k = k / shape.nx % shape.ny
+
+abbrev pub z_of : Shape → ℕ → ℕ
+z_of shape k = k / shape.nx / shape.ny
+
+abbrev pub root_at : Shape → ℕ → ℕ → ℕ → ℕ
+root_at shape x y z = x + shape.nx * (y + shape.ny * z)
 
 -- the root across a face, or none where the face lies at the domain's edge
 abbrev pub across : Shape → ℕ → Face → Option ℕ
-across shape k XLow = place_before (k % shape.nx) k 1
-across shape k XHigh = place_after (k % shape.nx) shape.nx k 1
-across shape k YLow = place_before (k / shape.nx % shape.ny) k shape.nx
-across shape k YHigh = place_after (k / shape.nx % shape.ny) shape.ny k shape.nx
-across shape k ZLow = place_before (k / shape.nx / shape.ny) k (shape.nx * shape.ny)
-across shape k ZHigh = place_after (k / shape.nx / shape.ny) shape.nz k (shape.nx * shape.ny)
+across shape k XLow = option_map (λ x. root_at shape x (y_of shape k) (z_of shape k)) (before (roots_x shape) 1 (x_of shape k))
+across shape k XHigh = option_map (λ x. root_at shape x (y_of shape k) (z_of shape k)) (after (roots_x shape) 1 (x_of shape k))
+across shape k YLow = option_map (λ y. root_at shape (x_of shape k) y (z_of shape k)) (before (roots_y shape) 1 (y_of shape k))
+across shape k YHigh = option_map (λ y. root_at shape (x_of shape k) y (z_of shape k)) (after (roots_y shape) 1 (y_of shape k))
+across shape k ZLow = option_map (λ z. root_at shape (x_of shape k) (y_of shape k) z) (before (roots_z shape) 1 (z_of shape k))
+across shape k ZHigh = option_map (λ z. root_at shape (x_of shape k) (y_of shape k) z) (after (roots_z shape) 1 (z_of shape k))
 
 -- the root itself, or a root across one of its faces
 abbrev pub IsAround : Shape → ℕ → ℕ → Type 0

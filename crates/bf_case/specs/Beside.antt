@@ -1,17 +1,18 @@
 -- What lies beside the faces of a block in a map.
-use Rattle.std.specs.Prelude.{◌≡◌, ℕ, ◌+◌, ◌-◌, ◌*◌, ◌<◌, ◌==◌, if◌then◌else◌, List, Contains}
+use Rattle.std.specs.Prelude.{◌≡◌, ℕ, ◌+◌, ◌-◌, ◌<◌, if◌then◌else◌, List, Contains}
 use Rattle.bf_id.specs.declared.shape.Shape.{Shape}
 use Rattle.bf_id.specs.declared.face.Face.{Face}
 use Rattle.bf_id.specs.declared.face.Face.TheVariants.{XLow, XHigh, YLow, YHigh, ZLow, ZHigh}
 use Rattle.bf_id.specs.Face.{number_of}
 use Rattle.bf_id.specs.Cube.{Cube, Voxel, Holds}
-use Rattle.bf_id.specs.Shape.{root_edge}
+use Rattle.bf_id.specs.Axis.{is_first, is_last, back, on, IsFirst, IsLast}
+use Rattle.bf_id.specs.Shape.{axis_x, axis_y, axis_z}
 use Rattle.bf_id.specs.Id.{BlockId, level_of, box_of}
 use Rattle.bf_cells.specs.Grid.{Grid}
 use Rattle.bf_cells.specs.Shell.{Walls, wall_at, face_cell}
 use Rattle.bf_case.specs.Map.{Leaf, IsMap}
 use Rattle.bf_case.specs.Sample.{scale_of, cell_corner, sample}
-use Rattle.bf_case.specs.Stencil.{extent_of}
+use Rattle.bf_case.specs.Stencil.{cells_x, cells_y, cells_z}
 
 -- the low corner of a block's cell at a face, by the cell's two other coordinates
 abbrev pub face_corner : Shape → ℕ → BlockId → Face → ℕ → ℕ → Voxel
@@ -25,12 +26,12 @@ face_corner shape side i ZHigh a b = cell_corner shape side i a b (side - 1)
 -- the value that counts as the neighbour across a face of the cell whose low corner this is: the sample there, or the cell's own value
 -- at the domain's edge
 abbrev pub value_across : Shape → ℕ → (Voxel → ℕ) → ℕ → Face → Voxel → ℕ → ℕ
-value_across shape side at scale XLow p own = if p.x == 0 then own else at (record p { x = p.x - scale })
-value_across shape side at scale XHigh p own = if p.x + scale == extent_of side shape.nx then own else at (record p { x = p.x + scale })
-value_across shape side at scale YLow p own = if p.y == 0 then own else at (record p { y = p.y - scale })
-value_across shape side at scale YHigh p own = if p.y + scale == extent_of side shape.ny then own else at (record p { y = p.y + scale })
-value_across shape side at scale ZLow p own = if p.z == 0 then own else at (record p { z = p.z - scale })
-value_across shape side at scale ZHigh p own = if p.z + scale == extent_of side shape.nz then own else at (record p { z = p.z + scale })
+value_across shape side at scale XLow p own = if is_first (cells_x shape side) p.x then own else at (record p { x = back (cells_x shape side) scale p.x })
+value_across shape side at scale XHigh p own = if is_last (cells_x shape side) (p.x + scale) then own else at (record p { x = on (cells_x shape side) scale p.x })
+value_across shape side at scale YLow p own = if is_first (cells_y shape side) p.y then own else at (record p { y = back (cells_y shape side) scale p.y })
+value_across shape side at scale YHigh p own = if is_last (cells_y shape side) (p.y + scale) then own else at (record p { y = on (cells_y shape side) scale p.y })
+value_across shape side at scale ZLow p own = if is_first (cells_z shape side) p.z then own else at (record p { z = back (cells_z shape side) scale p.z })
+value_across shape side at scale ZHigh p own = if is_last (cells_z shape side) (p.z + scale) then own else at (record p { z = on (cells_z shape side) scale p.z })
 
 -- the value beside a face's cell in a map: what counts as its neighbour across the face
 abbrev pub value_beside : Shape → List Leaf → BlockId → Grid → Face → ℕ → ℕ → ℕ
@@ -50,12 +51,12 @@ HoldSamples shape leaves i g walls = (face : Face) → HoldsBeside shape leaves 
 
 -- the face lies at the domain's edge
 abbrev pub IsAtEdge : Shape → Cube → Face → Type 0
-IsAtEdge shape box XLow = box.x ≡ 0
-IsAtEdge shape box XHigh = box.x + box.edge ≡ root_edge * shape.nx
-IsAtEdge shape box YLow = box.y ≡ 0
-IsAtEdge shape box YHigh = box.y + box.edge ≡ root_edge * shape.ny
-IsAtEdge shape box ZLow = box.z ≡ 0
-IsAtEdge shape box ZHigh = box.z + box.edge ≡ root_edge * shape.nz
+IsAtEdge shape box XLow = IsFirst (axis_x shape) box.x
+IsAtEdge shape box XHigh = IsLast (axis_x shape) (box.x + box.edge)
+IsAtEdge shape box YLow = IsFirst (axis_y shape) box.y
+IsAtEdge shape box YHigh = IsLast (axis_y shape) (box.y + box.edge)
+IsAtEdge shape box ZLow = IsFirst (axis_z shape) box.z
+IsAtEdge shape box ZHigh = IsLast (axis_z shape) (box.z + box.edge)
 
 -- where a box begins along the first and the second of a face's two axes, in the order x, y, z
 abbrev pub first_low : Face → Cube → ℕ
@@ -75,13 +76,13 @@ second_low ZLow box = box.y
 second_low ZHigh box = box.y
 
 -- the unit just across a face, so many units on from where the face begins along its two axes
-abbrev pub unit_across : Cube → Face → ℕ → ℕ → Voxel
-unit_across box XLow a b = record { x = box.x - 1; y = box.y + a; z = box.z + b }
-unit_across box XHigh a b = record { x = box.x + box.edge; y = box.y + a; z = box.z + b }
-unit_across box YLow a b = record { x = box.x + a; y = box.y - 1; z = box.z + b }
-unit_across box YHigh a b = record { x = box.x + a; y = box.y + box.edge; z = box.z + b }
-unit_across box ZLow a b = record { x = box.x + a; y = box.y + b; z = box.z - 1 }
-unit_across box ZHigh a b = record { x = box.x + a; y = box.y + b; z = box.z + box.edge }
+abbrev pub unit_across : Shape → Cube → Face → ℕ → ℕ → Voxel
+unit_across shape box XLow a b = record { x = back (axis_x shape) 1 box.x; y = box.y + a; z = box.z + b }
+unit_across shape box XHigh a b = record { x = on (axis_x shape) box.edge box.x; y = box.y + a; z = box.z + b }
+unit_across shape box YLow a b = record { x = box.x + a; y = back (axis_y shape) 1 box.y; z = box.z + b }
+unit_across shape box YHigh a b = record { x = box.x + a; y = on (axis_y shape) box.edge box.y; z = box.z + b }
+unit_across shape box ZLow a b = record { x = box.x + a; y = box.y + b; z = back (axis_z shape) 1 box.z }
+unit_across shape box ZHigh a b = record { x = box.x + a; y = box.y + b; z = on (axis_z shape) box.edge box.z }
 
 -- two leaves of a map, of which the other has the unit just across a face of the first, so many units on along the face's two axes
 pub record LiesAcross (shape : Shape) (side : ℕ) (leaves : List Leaf) (own : Leaf) (face : Face) (a b : ℕ) (other : Leaf) : Type 0 where
@@ -89,4 +90,4 @@ pub record LiesAcross (shape : Shape) (side : ℕ) (leaves : List Leaf) (own : L
   pub own_in : Contains leaves own
   pub other_in : Contains leaves other
   pub inner : IsAtEdge shape (box_of shape own.0) face → ⊥
-  pub held : Holds (box_of shape other.0) (unit_across (box_of shape own.0) face a b)
+  pub held : Holds (box_of shape other.0) (unit_across shape (box_of shape own.0) face a b)

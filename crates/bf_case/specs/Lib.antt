@@ -14,3 +14,4 @@ pub mod Filling
 pub mod Around
 pub mod Beside
 pub mod Rows
+pub mod Halves

@@ -4,7 +4,7 @@ ghost use Rattle.std.specs.Prelude.{◌≡◌, ◌+◌, ◌*◌, ◌/◌, ◌<�
 ghost use Rattle.std.specs.List.{slice_index_or};
 ghost use Rattle.bf_id.specs.Cube.{Holds, Voxel};
 ghost use Rattle.bf_id.specs.Face.{number_of, opposite_of};
-ghost use Rattle.bf_id.specs.Id.{box_of, child_of, level_of, root_id, BlockId, IsId};
+ghost use Rattle.bf_id.specs.Id.{box_of, child_of, level_of, octant_of, root_id, BlockId, IsId};
 ghost use Rattle.bf_id.specs.Shape.{root_count, IsShape};
 ghost use Rattle.bf_id.specs.declared.face.Face.{Face};
 ghost use Rattle.bf_id.specs.Tiling.{IsBalanced, Tiles};
@@ -19,6 +19,7 @@ ghost use Rattle.bf_case.specs.Around.{walls_around, IsAround};
 ghost use Rattle.bf_case.specs.Balanced.{AreBalancedLeaves};
 ghost use Rattle.bf_case.specs.Beside.{first_low, second_low, value_beside, HoldSamples, IsAtEdge, LiesAcross};
 ghost use Rattle.bf_case.specs.Case.{IsSized, IsValid};
+ghost use Rattle.bf_case.specs.Halves.{first_half, is_opposite, second_half, ShareFace};
 ghost use Rattle.bf_case.specs.Map.{cells_at, ids_of, IsBalancedMap, IsMap, Leaf};
 ghost use Rattle.bf_case.specs.Merging.{merges, Merges};
 ghost use Rattle.bf_case.specs.Model.{filled_root, initial, model, model_at, root_ids, NeverRefines};
@@ -261,4 +262,33 @@ pub fn a_unit_has_one_place()
         → Holds (box_of shape (slice_index_or ids j d)) v
         → Holds (box_of shape (slice_index_or ids k d)) v
         → j ≡ k }
+{}
+
+/// What a map samples beside the cells of a face that a leaf shares with another. Of the same level it is the other one's own
+/// cell there; of one level coarser the cell that is as wide as two, in the quarter that the leaf's octant tells; of one level
+/// finer the mean of the eight cells that are as wide as one, in the quarter that the other one's octant tells.
+pub fn samples_lie_in_the_leaf_that_shares_the_face()
+    ensures same { (shape : Shape) (side : ℕ) (leaves : List Leaf) (i j : BlockId) (g h : Grid) (face : Face) (a b : ℕ)
+        → ShareFace shape side leaves (i, g) face (j, h) → level_of j ≡ level_of i → a < side → b < side
+        → value_beside shape leaves i g face a b ≡ face_cell h (number_of (opposite_of face)) a b }
+    ensures coarser { (shape : Shape) (side : ℕ) (leaves : List Leaf) (i j : BlockId) (g h : Grid) (face : Face) (a b : ℕ)
+        → ShareFace shape side leaves (i, g) face (j, h) → level_of j + 1 ≡ level_of i → a < side → b < side
+        → value_beside shape leaves i g face a b ≡ face_cell h (number_of (opposite_of face))
+        (first_half face (octant_of i) * (side / 2) + a / 2) (second_half face (octant_of i) * (side / 2) + b / 2) }
+    ensures finer { (shape : Shape) (side : ℕ) (leaves : List Leaf) (i j : BlockId) (g h : Grid) (face : Face) (a b : ℕ)
+        → ShareFace shape side leaves (i, g) face (j, h) → level_of j ≡ level_of i + 1 → a < side / 2 → b < side / 2
+        → value_beside shape leaves i g face (first_half face (octant_of j) * (side / 2) + a) (second_half face (octant_of j) * (side / 2) + b)
+        ≡ face_mean h (number_of (opposite_of face)) a b }
+{}
+
+/// In a balanced map, leaves that share a face are at most one level apart, and each cell at a face that doesn't lie at the
+/// domain's edge lies beside a leaf that shares the face.
+pub fn leaves_that_share_a_face_are_near_and_leave_no_place_out()
+    ensures near { (shape : Shape) (side : ℕ) (leaves : List Leaf) (i j : BlockId) (g h : Grid) (face : Face)
+        → ShareFace shape side leaves (i, g) face (j, h) → IsBalanced shape (ids_of leaves)
+        → (level_of i ≤ level_of j + 1) × (level_of j ≤ level_of i + 1) }
+    ensures all { (shape : Shape) (side : ℕ) (leaves : List Leaf) (i : BlockId) (g : Grid) (face : Face) (a b : ℕ)
+        → IsShape shape → IsMap shape side leaves → IsBalanced shape (ids_of leaves) → Contains leaves (i, g)
+        → (IsAtEdge shape (box_of shape i) face → ⊥) → a < side → b < side
+        → (other : Leaf) × ShareFace shape side leaves (i, g) face other × IsTrue (is_opposite side face i other.0 a b) }
 {}

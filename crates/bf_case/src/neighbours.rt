@@ -1,10 +1,11 @@
 //! What lies next to each root, in a domain whose leaves are the roots.
-ghost use Rattle.std.specs.Prelude.{◌≡◌, ℕ, ◌+◌, ◌-◌, ◌*◌, ◌/◌, ◌%◌, ◌^◌, ◌<◌, ◌≤◌, length, Option};
+ghost use Rattle.std.specs.Prelude.{◌≡◌, ℕ, ◌+◌, ◌-◌, ◌*◌, ◌/◌, ◌%◌, ◌^◌, ◌<◌, ◌≤◌, length, IfSome, Option};
 ghost use Rattle.std.specs.Option.{ForSome};
+ghost use Rattle.bf_id.specs.Axis.{Axis, after, before};
 ghost use Rattle.bf_id.specs.Face.{number_of};
 ghost use Rattle.bf_id.specs.Shape.{IsShape, root_count};
 ghost use Rattle.bf_cells.specs.Shell.{with_wall};
-ghost use Rattle.bf_case.specs.Around.{place_before, place_after, wall_from, walls_around, IsAround, IsGiven};
+ghost use Rattle.bf_case.specs.Around.{across, root_at, wall_from, walls_around, IsAround, IsGiven};
 
 use bf_cells::{Cells, Shell};
 use bf_id::{Face, Id, Shape};
@@ -40,24 +41,73 @@ impl RootCells for &[(Id, Cells)] {
     }
 }
 
-/// The root so many numbers before, unless this one is the first along the axis.
-fn place_before(at: usize, root: usize, step: usize) -> Option<usize>
-    requires { 0 < at → step ≤ root }
-    ensures { result ≡ place_before at root step }
+/// The place before this one on an axis of so many roots; none at the domain's edge.
+fn place_before(count: u32, at: u32) -> Option<u32>
+    requires { at < count }
+    ensures place { let axis : Axis = record { extent = count } in result ≡ before axis 1 at }
+    ensures within { IfSome result (λ place. place < count) }
 {
-    if at == 0 { None } else { Some(root - step) }
+    if at == 0 { None } else { Some(at - 1) }
 }
 
-/// The root so many numbers after, unless this one is the last along the axis.
-fn place_after(at: usize, count: usize, root: usize, step: usize) -> Option<usize>
-    requires at_in { at < count }
-    requires fits { at + 1 < count → root + step < 2 ^ 64 }
-    ensures { result ≡ place_after at count root step }
+/// The place after this one on an axis of so many roots; none at the domain's edge.
+fn place_after(count: u32, at: u32) -> Option<u32>
+    requires inside { at < count }
+    requires few { count ≤ 16 }
+    ensures place { let axis : Axis = record { extent = count } in result ≡ after axis 1 at }
+    ensures within { IfSome result (λ place. place < count) }
 {
-    if at + 1 == count {
-        None
-    } else {
-        Some(root + step)
+    if at + 1 == count { None } else { Some(at + 1) }
+}
+
+/// The number of the root at these coordinates.
+fn root_at(shape: Shape, x: u32, y: u32, z: u32) -> usize
+    requires shape { IsShape shape }
+    requires x_in { x < shape.nx }
+    requires y_in { y < shape.ny }
+    requires z_in { z < shape.nz }
+    ensures { result ≡ root_at shape x y z }
+{
+    let row = y + shape.ny * z;
+    (x + shape.nx * row) as usize
+}
+
+/// The root across a face; none where the face lies at the domain's edge.
+fn across(shape: Shape, root: usize, face: Face) -> Option<usize>
+    requires shape { IsShape shape }
+    requires root_in { root < root_count shape }
+    ensures { result ≡ across shape root face }
+{
+    let number = root as u32;
+    let row = number / shape.nx;
+    let x = number % shape.nx;
+    let y = row % shape.ny;
+    let z = row / shape.ny;
+    match face {
+        Face::XLow => match place_before(shape.nx, x) {
+            None => None,
+            Some(x) => Some(root_at(shape, x, y, z)),
+        },
+        Face::XHigh => match place_after(shape.nx, x) {
+            None => None,
+            Some(x) => Some(root_at(shape, x, y, z)),
+        },
+        Face::YLow => match place_before(shape.ny, y) {
+            None => None,
+            Some(y) => Some(root_at(shape, x, y, z)),
+        },
+        Face::YHigh => match place_after(shape.ny, y) {
+            None => None,
+            Some(y) => Some(root_at(shape, x, y, z)),
+        },
+        Face::ZLow => match place_before(shape.nz, z) {
+            None => None,
+            Some(z) => Some(root_at(shape, x, y, z)),
+        },
+        Face::ZHigh => match place_after(shape.nz, z) {
+            None => None,
+            Some(z) => Some(root_at(shape, x, y, z)),
+        },
     }
 }
 
@@ -82,45 +132,6 @@ fn lay_wall<L: RootCells>(
     }
 }
 
-/// Where a root stands along one axis, and how far apart the numbers of the roots in a row along it are.
-#[derive(Clone, Copy)]
-struct Row {
-    low: Face,
-    high: Face,
-    at: usize,
-    count: usize,
-    step: usize,
-}
-
-/// Lays both walls of a root along one axis.
-fn lay_pair<L: RootCells>(shell: &mut Shell, row: Row, leaves: &L, root: usize)
-    requires at_in { row.at < row.count }
-    requires back { 0 < row.at → row.step ≤ root }
-    requires on { row.at + 1 < row.count → root + row.step < 2 ^ 64 }
-    requires own { IsGiven (L.has leaves.now) (L.grid_of leaves.now) shell.old.side root }
-    requires before { ForSome (place_before row.at root row.step) (IsGiven (L.has leaves.now) (L.grid_of leaves.now) shell.old.side) }
-    requires after { ForSome (place_after row.at row.count root row.step) (IsGiven (L.has leaves.now) (L.grid_of leaves.now) shell.old.side) }
-    ensures walls { shell.new
-        ≡ with_wall (with_wall shell.old (number_of row.low) (wall_from (L.grid_of leaves.now) root (place_before row.at root row.step) row.low))
-        (number_of row.high) (wall_from (L.grid_of leaves.now) root (place_after row.at row.count root row.step) row.high) }
-    ensures side { shell.new.side ≡ shell.old.side }
-{
-    lay_wall(
-        shell,
-        row.low,
-        leaves,
-        root,
-        place_before(row.at, root, row.step),
-    );
-    lay_wall(
-        shell,
-        row.high,
-        leaves,
-        root,
-        place_after(row.at, row.count, root, row.step),
-    );
-}
-
 /// Lays next to each face of a root what lies across it: the next root's cells, or at the domain's edge the root's own.
 pub fn surround<L: RootCells>(shell: &mut Shell, shape: Shape, leaves: &L, root: usize)
     requires shape { IsShape shape }
@@ -129,31 +140,46 @@ pub fn surround<L: RootCells>(shell: &mut Shell, shape: Shape, leaves: &L, root:
     ensures walls { shell.new ≡ walls_around shape shell.old.side (L.grid_of leaves.now) root }
     ensures side { shell.new.side ≡ shell.old.side }
 {
-    let nx = shape.nx as usize;
-    let ny = shape.ny as usize;
-    let nz = shape.nz as usize;
-    let along_x = Row {
-        low: Face::XLow,
-        high: Face::XHigh,
-        at: root % nx,
-        count: nx,
-        step: 1,
-    };
-    let along_y = Row {
-        low: Face::YLow,
-        high: Face::YHigh,
-        at: root / nx % ny,
-        count: ny,
-        step: nx,
-    };
-    let along_z = Row {
-        low: Face::ZLow,
-        high: Face::ZHigh,
-        at: root / nx / ny,
-        count: nz,
-        step: nx * ny,
-    };
-    lay_pair(shell, along_x, leaves, root);
-    lay_pair(shell, along_y, leaves, root);
-    lay_pair(shell, along_z, leaves, root);
+    lay_wall(
+        shell,
+        Face::XLow,
+        leaves,
+        root,
+        across(shape, root, Face::XLow),
+    );
+    lay_wall(
+        shell,
+        Face::XHigh,
+        leaves,
+        root,
+        across(shape, root, Face::XHigh),
+    );
+    lay_wall(
+        shell,
+        Face::YLow,
+        leaves,
+        root,
+        across(shape, root, Face::YLow),
+    );
+    lay_wall(
+        shell,
+        Face::YHigh,
+        leaves,
+        root,
+        across(shape, root, Face::YHigh),
+    );
+    lay_wall(
+        shell,
+        Face::ZLow,
+        leaves,
+        root,
+        across(shape, root, Face::ZLow),
+    );
+    lay_wall(
+        shell,
+        Face::ZHigh,
+        leaves,
+        root,
+        across(shape, root, Face::ZHigh),
+    );
 }

@@ -6,11 +6,12 @@ use Rattle.std.proofs.lemmas.Slice.Eq.{slice_eq-Decides}
 use Rattle.std.proofs.lemmas.Nat.{shl-shr, mul-add-lt, div-mul-add, mod-mul-add, div_below, mod_below}
 use Rattle.std.proofs.lemmas.List.Elements.{All-nil, All-cons, All-head, All-tail, All-push}
 use lib.Pointwise.{pointwise}
-use Rattle.bf_id.specs.Cube.{Cube, Voxel, Holds, Meet, Within, Apart, halved, narrowed}
+use Rattle.bf_id.specs.Cube.{Cube, Voxel, Holds, Within, Apart, halved, narrowed}
+use Rattle.bf_id.specs.Meeting.{Meet}
 use Rattle.bf_id.specs.Shape.{IsShape, root_count, root_cube, InDomain}
 use Rattle.bf_id.specs.Id.{BlockId, IsId, level_of, child_of, box_of, InShape, Touch, id_eq, Begins}
 use Rattle.bf_id.specs.declared.shape.Shape.{Shape}
-use Rattle.bf_id.proofs.Cubes.{Holds-within, Meet-within, halved_meeting, Meet_sym, halved_within, halved_holding, halved_is_one, narrowed-append, narrowed-push, narrowed_within, power-narrowed}
+use Rattle.bf_id.proofs.Cubes.{Holds-within, halved_meeting, Meet_sym, halved_within, halved_holding, halved_is_one, narrowed-append, narrowed-push, narrowed_within, power-narrowed}
 
 -- what is true of each element of a list is true of each at its end
 pub All-end : (P : ℕ → Type 0) (xs ys : List ℕ) → All P (xs ++ ys) → All P ys
@@ -57,7 +58,7 @@ IsId-parent i o is = record {
 
 -- a block touches what touches it
 pub Touch_sym : (shape : Shape) (i j : BlockId) → Touch shape i j → Touch shape j i
-Touch_sym shape i j t = (λ e. t.0 (sym e), Meet_sym (box_of shape i) (box_of shape j) t.1)
+Touch_sym shape i j t = (λ e. t.0 (sym e), Meet_sym shape (box_of shape i) (box_of shape j) t.1)
 
 -- ---- edges
 
@@ -110,14 +111,10 @@ pub child_is_one : (shape : Shape) (i : BlockId) (v : Voxel) (o p : ℕ) → o <
 child_is_one shape i v o p a b h k =
     halved_is_one (box_of shape i) v o p a b (rw (box-child shape i o) at h) (rw (box-child shape i p) at k)
 
--- a parent meets what a child meets
-pub parent_meets : (shape : Shape) (i : BlockId) (o : ℕ) (d : Cube) → o < 8 → Meet (box_of shape (child_of i o)) d → Meet (box_of shape i) d
-parent_meets shape i o d h meets = Meet-within (box_of shape (child_of i o)) (box_of shape i) d (child_within shape i o h) meets
-
 -- a child meets what a parent meets
-pub child_meeting : (shape : Shape) (i : BlockId) (d : Cube) → level_of i < 4 → Meet (box_of shape i) d → (o : ℕ) × (o < 8) × Meet (box_of shape (child_of i o)) d
+pub child_meeting : (shape : Shape) (i : BlockId) (d : Cube) → level_of i < 4 → Meet shape (box_of shape i) d → (o : ℕ) × (o < 8) × Meet shape (box_of shape (child_of i o)) d
 child_meeting shape i d h meets =
-    let half = halved_meeting (box_of shape i) d (edge_is_even shape i h) meets in
+    let half = halved_meeting shape (box_of shape i) d (edge_is_even shape i h) meets in
     (half.0, half.1, rw (box-child shape i half.0) half.2)
 
 -- ---- roots

@@ -1,45 +1,17 @@
 -- Geometry of cubes: their halves, and the cubes that lists of octants narrow them to.
-use Rattle.std.proofs.Common.{◌≡◌, ℕ, zero, suc, ◌+◌, ◌*◌, ◌/◌, ◌%◌, ◌^◌, ◌<◌, ◌≤◌, List, [], ◌∷◌, ◌++◌, length, ◌⊎◌, inl, inr, refl, ap, ◌∙◌, All, arith, pow-suc, suc-add, zero-add}
-use Rattle.std.proofs.lemmas.Bool.{cases_lt}
+use Rattle.std.proofs.Common.{◌≡◌, ℕ, ◌+◌, ◌*◌, ◌/◌, ◌%◌, ◌^◌, ◌<◌, ◌≤◌, List, [], ◌∷◌, ◌++◌, length, refl, ap, ◌∙◌, All, arith, ◌⊎◌, inl, inr, pow-suc, suc-add, zero-add}
 use Rattle.std.proofs.lemmas.List.Elements.{All-head, All-tail}
-use Rattle.bf_id.specs.Cube.{Cube, Voxel, Spans, Holds, Meets, Meet, Within, halved, narrowed}
-use Rattle.bf_id.specs.Face.{opposite_of, SharesFace}
+use Rattle.bf_id.specs.Axis.{MeetsOn}
+use Rattle.bf_id.specs.Cube.{Cube, Voxel, Holds, Within, halved, narrowed}
+use Rattle.bf_id.specs.Meeting.{Meet}
+use Rattle.bf_id.specs.Shape.{IsShape, axis_x, axis_y, axis_z}
+use Rattle.bf_id.specs.declared.shape.Shape.{Shape}
+use Rattle.bf_id.specs.Face.{opposite_of, JoinsX, JoinsY, JoinsZ, OverlapsX, OverlapsY, OverlapsZ, SharesFace}
 use Rattle.bf_id.specs.declared.face.Face.{Face}
 use Rattle.bf_id.specs.declared.face.Face.TheVariants.{XLow, XHigh, YLow, YHigh, ZLow, ZHigh}
-
--- ---- one axis
-
--- a step of 0 or 1 halves stays within the whole
-pub half_within : (low edge step : ℕ) → step < 2 → (low ≤ low + step * (edge / 2)) × (low + step * (edge / 2) + edge / 2 ≤ low + edge)
-half_within low edge zero h = omega arith
-half_within low edge (suc zero) h = omega arith
-half_within low edge (suc (suc step)) h = absurd (omega arith)
-
--- each unit of an even stretch is in one of its halves
-pub half_of : (low edge u : ℕ) → edge / 2 + edge / 2 ≡ edge → Spans low edge u → (step : ℕ) × (step < 2) × Spans (low + step * (edge / 2)) (edge / 2) u
-half_of low edge u even spans = at (cases_lt u (low + edge / 2))
-  where
-    at : (u < low + edge / 2) ⊎ (low + edge / 2 ≤ u) → (step : ℕ) × (step < 2) × Spans (low + step * (edge / 2)) (edge / 2) u
-    at (inl below) = (0, omega arith, omega arith)
-    at (inr above) = (1, omega arith, omega arith)
-
--- a stretch that an even stretch meets meets one of its halves
-pub half_meeting : (low edge other length : ℕ) → edge / 2 + edge / 2 ≡ edge → Meets low edge other length → (step : ℕ) × (step < 2) × Meets (low + step * (edge / 2)) (edge / 2) other length
-half_meeting low edge other length even meets = at (cases_lt other (low + edge / 2))
-  where
-    at : (other < low + edge / 2) ⊎ (low + edge / 2 ≤ other) → (step : ℕ) × (step < 2) × Meets (low + step * (edge / 2)) (edge / 2) other length
-    at (inl below) = (0, omega arith, omega arith)
-    at (inr above) = (1, omega arith, omega arith)
-
--- a unit is in one half at most
-pub half_is_one : (low half u a b : ℕ) → a < 2 → b < 2 → Spans (low + a * half) half u → Spans (low + b * half) half u → a ≡ b
-half_is_one low half u zero zero p q s t = refl
-half_is_one low half u zero (suc zero) p q s t = absurd (omega arith)
-half_is_one low half u (suc zero) zero p q s t = absurd (omega arith)
-half_is_one low half u (suc zero) (suc zero) p q s t = refl
-half_is_one low half u (suc (suc a)) b p q s t = absurd (omega arith)
-half_is_one low half u zero (suc (suc b)) p q s t = absurd (omega arith)
-half_is_one low half u (suc zero) (suc (suc b)) p q s t = absurd (omega arith)
+use Rattle.bf_id.proofs.Steps.{IsShort}
+use Rattle.bf_id.proofs.Axes.{AreShort, MeetsOn_sym, MeetsOn-within, MeetsOn-from_overlaps, MeetsOn-from_joins, OverlapsOn_sym, half_meeting_on, joins_once, joins_part, overlaps_some}
+use Rattle.bf_id.proofs.Halves.{half_within, half_of, half_is_one}
 
 -- ---- octants
 
@@ -68,15 +40,19 @@ pub Holds-within : (c d : Cube) (v : Voxel) → Within c d → Holds c v → Hol
 Holds-within c d v w h = omega arith
 
 -- cubes meet where a cube within one meets the other
-pub Meet-within : (b c d : Cube) → Within b c → Meet b d → Meet c d
-Meet-within b c d w h = omega arith
+pub Meet-within : (shape : Shape) (b c d : Cube) → Within b c → Meet shape b d → Meet shape c d
+Meet-within shape b c d w h = record {
+  along_x = MeetsOn-within (axis_x shape) b.x b.edge c.x c.edge d.x d.edge w.low_x w.high_x h.along_x;
+  along_y = MeetsOn-within (axis_y shape) b.y b.edge c.y c.edge d.y d.edge w.low_y w.high_y h.along_y;
+  along_z = MeetsOn-within (axis_z shape) b.z b.edge c.z c.edge d.z d.edge w.low_z w.high_z h.along_z;
+}
 
-pub Meet_sym : (c d : Cube) → Meet c d → Meet d c
-Meet_sym c d h = omega arith
-
--- cubes that hold one voxel meet
-pub Meet-from_holds : (c d : Cube) (v : Voxel) → Holds c v → Holds d v → Meet c d
-Meet-from_holds c d v p q = omega arith
+pub Meet_sym : (shape : Shape) (c d : Cube) → Meet shape c d → Meet shape d c
+Meet_sym shape c d h = record {
+  along_x = MeetsOn_sym (axis_x shape) c.x c.edge d.x d.edge h.along_x;
+  along_y = MeetsOn_sym (axis_y shape) c.y c.edge d.y d.edge h.along_y;
+  along_z = MeetsOn_sym (axis_z shape) c.z c.edge d.z d.edge h.along_z;
+}
 
 -- ---- halves of a cube
 
@@ -99,11 +75,11 @@ halved_holding c v even h =
     (o.0, o.1, record { along_x = rw o.2 x.2; along_y = rw o.3 y.2; along_z = rw o.4 z.2 })
 
 -- what a cube of even edge meets meets one of its halves
-pub halved_meeting : (c d : Cube) → c.edge / 2 + c.edge / 2 ≡ c.edge → Meet c d → (o : ℕ) × (o < 8) × Meet (halved c o) d
-halved_meeting c d even m =
-    let x = half_meeting c.x c.edge d.x d.edge even m.along_x in
-    let y = half_meeting c.y c.edge d.y d.edge even m.along_y in
-    let z = half_meeting c.z c.edge d.z d.edge even m.along_z in
+pub halved_meeting : (shape : Shape) (c d : Cube) → c.edge / 2 + c.edge / 2 ≡ c.edge → Meet shape c d → (o : ℕ) × (o < 8) × Meet shape (halved c o) d
+halved_meeting shape c d even m =
+    let x = half_meeting_on (axis_x shape) c.x c.edge d.x d.edge even m.along_x in
+    let y = half_meeting_on (axis_y shape) c.y c.edge d.y d.edge even m.along_y in
+    let z = half_meeting_on (axis_z shape) c.z c.edge d.z d.edge even m.along_z in
     let o = octant_from x.0 y.0 z.0 x.1 y.1 z.1 in
     (o.0, o.1, record { along_x = rw o.2 x.2; along_y = rw o.3 y.2; along_z = rw o.4 z.2 })
 
@@ -144,30 +120,135 @@ power-narrowed (d ∷ ds) c m e =
 
 -- ---- faces
 
--- a shared face lies on both cubes, on opposite sides
-pub opposite_face : (f : Face) (c d : Cube) → SharesFace f c d → SharesFace (opposite_of f) d c
-opposite_face XLow c d h = omega arith
-opposite_face XHigh c d h = omega arith
-opposite_face YLow c d h = omega arith
-opposite_face YHigh c d h = omega arith
-opposite_face ZLow c d h = omega arith
-opposite_face ZHigh c d h = omega arith
+OverlapsX_sym : (shape : Shape) (c d : Cube) → OverlapsX shape c d → OverlapsX shape d c
+OverlapsX_sym shape c d = OverlapsOn_sym (axis_x shape) c.x c.edge d.x d.edge
 
--- two cubes share area of one face at most
-pub one_face : (f g : Face) (c d : Cube) → SharesFace f c d → SharesFace g c d → f ≡ g
-one_face XLow XLow c d h k = refl
-one_face XHigh XHigh c d h k = refl
-one_face YLow YLow c d h k = refl
-one_face YHigh YHigh c d h k = refl
-one_face ZLow ZLow c d h k = refl
-one_face ZHigh ZHigh c d h k = refl
-one_face f g c d h k = absurd (omega arith)
+OverlapsY_sym : (shape : Shape) (c d : Cube) → OverlapsY shape c d → OverlapsY shape d c
+OverlapsY_sym shape c d = OverlapsOn_sym (axis_y shape) c.y c.edge d.y d.edge
+
+OverlapsZ_sym : (shape : Shape) (c d : Cube) → OverlapsZ shape c d → OverlapsZ shape d c
+OverlapsZ_sym shape c d = OverlapsOn_sym (axis_z shape) c.z c.edge d.z d.edge
+
+-- along each axis of the domain, a stretch that is no longer than a root's edge is short
+pub short_x : (shape : Shape) → IsShape shape → (e : ℕ) → e ≤ 16 → IsShort (axis_x shape) e
+short_x shape is e few = tt
+
+pub short_y : (shape : Shape) → IsShape shape → (e : ℕ) → e ≤ 16 → IsShort (axis_y shape) e
+short_y shape is e few = tt
+
+pub short_z : (shape : Shape) → IsShape shape → (e : ℕ) → e ≤ 16 → IsShort (axis_z shape) e
+short_z shape is e few = tt
+
+-- a shared face lies on both cubes, on opposite sides
+pub opposite_face : (shape : Shape) (f : Face) (c d : Cube) → SharesFace shape f c d → SharesFace shape (opposite_of f) d c
+opposite_face shape XLow c d h = (h.0, OverlapsY_sym shape c d h.1, OverlapsZ_sym shape c d h.2)
+opposite_face shape XHigh c d h = (h.0, OverlapsY_sym shape c d h.1, OverlapsZ_sym shape c d h.2)
+opposite_face shape YLow c d h = (h.0, OverlapsX_sym shape c d h.1, OverlapsZ_sym shape c d h.2)
+opposite_face shape YHigh c d h = (h.0, OverlapsX_sym shape c d h.1, OverlapsZ_sym shape c d h.2)
+opposite_face shape ZLow c d h = (h.0, OverlapsX_sym shape c d h.1, OverlapsY_sym shape c d h.2)
+opposite_face shape ZHigh c d h = (h.0, OverlapsX_sym shape c d h.1, OverlapsY_sym shape c d h.2)
+
+-- two cubes, no wider than a root, share area of one face at most
+pub one_face : (shape : Shape) (f g : Face) (c d : Cube) → IsShape shape → c.edge ≤ 16 → d.edge ≤ 16 → SharesFace shape f c d → SharesFace shape g c d → f ≡ g
+one_face shape f g c d is low high h k = by f g h k
+  where
+    pair_x : (e f : ℕ) → e ≤ 16 → f ≤ 16 → AreShort (axis_x shape) e f
+    pair_x e f p q = tt
+
+    pair_y : (e f : ℕ) → e ≤ 16 → f ≤ 16 → AreShort (axis_y shape) e f
+    pair_y e f p q = tt
+
+    pair_z : (e f : ℕ) → e ≤ 16 → f ≤ 16 → AreShort (axis_z shape) e f
+    pair_z e f p q = tt
+
+    part_x : JoinsX shape c d ⊎ JoinsX shape d c → OverlapsX shape c d → ⊥
+    part_x (inl j) o = joins_part (axis_x shape) c.x c.edge d.x d.edge (pair_x c.edge d.edge low high) j o
+    part_x (inr j) o = joins_part (axis_x shape) d.x d.edge c.x c.edge (pair_x d.edge c.edge high low) j (OverlapsX_sym shape c d o)
+
+    part_y : JoinsY shape c d ⊎ JoinsY shape d c → OverlapsY shape c d → ⊥
+    part_y (inl j) o = joins_part (axis_y shape) c.y c.edge d.y d.edge (pair_y c.edge d.edge low high) j o
+    part_y (inr j) o = joins_part (axis_y shape) d.y d.edge c.y c.edge (pair_y d.edge c.edge high low) j (OverlapsY_sym shape c d o)
+
+    part_z : JoinsZ shape c d ⊎ JoinsZ shape d c → OverlapsZ shape c d → ⊥
+    part_z (inl j) o = joins_part (axis_z shape) c.z c.edge d.z d.edge (pair_z c.edge d.edge low high) j o
+    part_z (inr j) o = joins_part (axis_z shape) d.z d.edge c.z c.edge (pair_z d.edge c.edge high low) j (OverlapsZ_sym shape c d o)
+
+    once_x : JoinsX shape c d → JoinsX shape d c → OverlapsY shape c d → ⊥
+    once_x j k o = joins_once (axis_x shape) c.x c.edge d.x d.edge (pair_x c.edge d.edge low high) (overlaps_some (axis_y shape) c.y c.edge d.y d.edge o) j k
+
+    once_y : JoinsY shape c d → JoinsY shape d c → OverlapsX shape c d → ⊥
+    once_y j k o = joins_once (axis_y shape) c.y c.edge d.y d.edge (pair_y c.edge d.edge low high) (overlaps_some (axis_x shape) c.x c.edge d.x d.edge o) j k
+
+    once_z : JoinsZ shape c d → JoinsZ shape d c → OverlapsX shape c d → ⊥
+    once_z j k o = joins_once (axis_z shape) c.z c.edge d.z d.edge (pair_z c.edge d.edge low high) (overlaps_some (axis_x shape) c.x c.edge d.x d.edge o) j k
+
+    by : (f g : Face) → SharesFace shape f c d → SharesFace shape g c d → f ≡ g
+    by XLow XLow h k = refl
+    by XLow XHigh h k = absurd (once_x k.0 h.0 h.1)
+    by XLow YLow h k = absurd (part_x (inr h.0) k.1)
+    by XLow YHigh h k = absurd (part_x (inr h.0) k.1)
+    by XLow ZLow h k = absurd (part_x (inr h.0) k.1)
+    by XLow ZHigh h k = absurd (part_x (inr h.0) k.1)
+    by XHigh XLow h k = absurd (once_x h.0 k.0 h.1)
+    by XHigh XHigh h k = refl
+    by XHigh YLow h k = absurd (part_x (inl h.0) k.1)
+    by XHigh YHigh h k = absurd (part_x (inl h.0) k.1)
+    by XHigh ZLow h k = absurd (part_x (inl h.0) k.1)
+    by XHigh ZHigh h k = absurd (part_x (inl h.0) k.1)
+    by YLow XLow h k = absurd (part_y (inr h.0) k.1)
+    by YLow XHigh h k = absurd (part_y (inr h.0) k.1)
+    by YLow YLow h k = refl
+    by YLow YHigh h k = absurd (once_y k.0 h.0 h.1)
+    by YLow ZLow h k = absurd (part_y (inr h.0) k.2)
+    by YLow ZHigh h k = absurd (part_y (inr h.0) k.2)
+    by YHigh XLow h k = absurd (part_y (inl h.0) k.1)
+    by YHigh XHigh h k = absurd (part_y (inl h.0) k.1)
+    by YHigh YLow h k = absurd (once_y h.0 k.0 h.1)
+    by YHigh YHigh h k = refl
+    by YHigh ZLow h k = absurd (part_y (inl h.0) k.2)
+    by YHigh ZHigh h k = absurd (part_y (inl h.0) k.2)
+    by ZLow XLow h k = absurd (part_z (inr h.0) k.2)
+    by ZLow XHigh h k = absurd (part_z (inr h.0) k.2)
+    by ZLow YLow h k = absurd (part_z (inr h.0) k.2)
+    by ZLow YHigh h k = absurd (part_z (inr h.0) k.2)
+    by ZLow ZLow h k = refl
+    by ZLow ZHigh h k = absurd (once_z k.0 h.0 h.1)
+    by ZHigh XLow h k = absurd (part_z (inl h.0) k.2)
+    by ZHigh XHigh h k = absurd (part_z (inl h.0) k.2)
+    by ZHigh YLow h k = absurd (part_z (inl h.0) k.2)
+    by ZHigh YHigh h k = absurd (part_z (inl h.0) k.2)
+    by ZHigh ZLow h k = absurd (once_z h.0 k.0 h.1)
+    by ZHigh ZHigh h k = refl
 
 -- cubes that share area of a face meet
-pub Meet-from_face : (f : Face) (c d : Cube) → SharesFace f c d → Meet c d
-Meet-from_face XLow c d h = omega arith
-Meet-from_face XHigh c d h = omega arith
-Meet-from_face YLow c d h = omega arith
-Meet-from_face YHigh c d h = omega arith
-Meet-from_face ZLow c d h = omega arith
-Meet-from_face ZHigh c d h = omega arith
+pub Meet-from_face : (shape : Shape) (f : Face) (c d : Cube) → SharesFace shape f c d → Meet shape c d
+Meet-from_face shape f c d h = by f h
+  where
+    x_joins : JoinsX shape c d ⊎ JoinsX shape d c → MeetsOn (axis_x shape) c.x c.edge d.x d.edge
+    x_joins (inl j) = MeetsOn-from_joins (axis_x shape) c.x c.edge d.x d.edge j
+    x_joins (inr j) = MeetsOn_sym (axis_x shape) d.x d.edge c.x c.edge (MeetsOn-from_joins (axis_x shape) d.x d.edge c.x c.edge j)
+
+    y_joins : JoinsY shape c d ⊎ JoinsY shape d c → MeetsOn (axis_y shape) c.y c.edge d.y d.edge
+    y_joins (inl j) = MeetsOn-from_joins (axis_y shape) c.y c.edge d.y d.edge j
+    y_joins (inr j) = MeetsOn_sym (axis_y shape) d.y d.edge c.y c.edge (MeetsOn-from_joins (axis_y shape) d.y d.edge c.y c.edge j)
+
+    z_joins : JoinsZ shape c d ⊎ JoinsZ shape d c → MeetsOn (axis_z shape) c.z c.edge d.z d.edge
+    z_joins (inl j) = MeetsOn-from_joins (axis_z shape) c.z c.edge d.z d.edge j
+    z_joins (inr j) = MeetsOn_sym (axis_z shape) d.z d.edge c.z c.edge (MeetsOn-from_joins (axis_z shape) d.z d.edge c.z c.edge j)
+
+    x_overlaps : OverlapsX shape c d → MeetsOn (axis_x shape) c.x c.edge d.x d.edge
+    x_overlaps o = MeetsOn-from_overlaps (axis_x shape) c.x c.edge d.x d.edge o
+
+    y_overlaps : OverlapsY shape c d → MeetsOn (axis_y shape) c.y c.edge d.y d.edge
+    y_overlaps o = MeetsOn-from_overlaps (axis_y shape) c.y c.edge d.y d.edge o
+
+    z_overlaps : OverlapsZ shape c d → MeetsOn (axis_z shape) c.z c.edge d.z d.edge
+    z_overlaps o = MeetsOn-from_overlaps (axis_z shape) c.z c.edge d.z d.edge o
+
+    by : (f : Face) → SharesFace shape f c d → Meet shape c d
+    by XLow h = record { along_x = x_joins (inr h.0); along_y = y_overlaps h.1; along_z = z_overlaps h.2 }
+    by XHigh h = record { along_x = x_joins (inl h.0); along_y = y_overlaps h.1; along_z = z_overlaps h.2 }
+    by YLow h = record { along_y = y_joins (inr h.0); along_x = x_overlaps h.1; along_z = z_overlaps h.2 }
+    by YHigh h = record { along_y = y_joins (inl h.0); along_x = x_overlaps h.1; along_z = z_overlaps h.2 }
+    by ZLow h = record { along_z = z_joins (inr h.0); along_x = x_overlaps h.1; along_y = y_overlaps h.2 }
+    by ZHigh h = record { along_z = z_joins (inl h.0); along_x = x_overlaps h.1; along_y = y_overlaps h.2 }

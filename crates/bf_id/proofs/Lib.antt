@@ -1,4 +1,7 @@
 pub mod IdLemmas
+pub mod Halves
+pub mod Axes
+pub mod Steps
 pub mod Cubes
 pub mod Boxes
 pub mod Tilings

@@ -32,12 +32,6 @@ Meets low length other_low other_length = (low ≤ other_low + other_length) × 
 abbrev pub Overlaps : ℕ → ℕ → ℕ → ℕ → Type 0
 Overlaps low length other_low other_length = (low < other_low + other_length) × (other_low < low + length)
 
--- two closed cubes share a point
-pub record Meet (c d : Cube) : Type 0 where
-  pub along_x : Meets c.x c.edge d.x d.edge
-  pub along_y : Meets c.y c.edge d.y d.edge
-  pub along_z : Meets c.z c.edge d.z d.edge
-
 -- the first cube lies in the second
 pub record Within (c d : Cube) : Type 0 where
   pub low_x : d.x ≤ c.x
@@ -75,6 +69,3 @@ holds c v = spans c.x c.edge v.x && spans c.y c.edge v.y && spans c.z c.edge v.z
 
 abbrev pub meets : ℕ → ℕ → ℕ → ℕ → Bool
 meets low length other_low other_length = nat_le low (other_low + other_length) && nat_le other_low (low + length)
-
-abbrev pub meet : Cube → Cube → Bool
-meet c d = meets c.x c.edge d.x d.edge && meets c.y c.edge d.y d.edge && meets c.z c.edge d.z d.edge

@@ -1,6 +1,9 @@
 -- The six faces of a box.
-use Rattle.std.specs.Prelude.{◌≡◌, ℕ, ◌+◌}
-use Rattle.bf_id.specs.Cube.{Cube, Overlaps}
+use Rattle.std.specs.Prelude.{ℕ, ◌+◌}
+use Rattle.bf_id.specs.Axis.{JoinsOn, OverlapsOn}
+use Rattle.bf_id.specs.Cube.{Cube}
+use Rattle.bf_id.specs.Shape.{axis_x, axis_y, axis_z}
+use Rattle.bf_id.specs.declared.shape.Shape.{Shape}
 use Rattle.bf_id.specs.declared.face.Face.{Face}
 use Rattle.bf_id.specs.declared.face.Face.TheVariants.{XLow, XHigh, YLow, YHigh, ZLow, ZHigh}
 
@@ -23,20 +26,30 @@ opposite_of ZLow = ZHigh
 opposite_of ZHigh = ZLow
 
 -- the cubes share units along the axis
-abbrev pub OverlapsX : Cube → Cube → Type 0
-OverlapsX c d = Overlaps c.x c.edge d.x d.edge
+abbrev pub OverlapsX : Shape → Cube → Cube → Type 0
+OverlapsX shape c d = OverlapsOn (axis_x shape) c.x c.edge d.x d.edge
 
-abbrev pub OverlapsY : Cube → Cube → Type 0
-OverlapsY c d = Overlaps c.y c.edge d.y d.edge
+abbrev pub OverlapsY : Shape → Cube → Cube → Type 0
+OverlapsY shape c d = OverlapsOn (axis_y shape) c.y c.edge d.y d.edge
 
-abbrev pub OverlapsZ : Cube → Cube → Type 0
-OverlapsZ c d = Overlaps c.z c.edge d.z d.edge
+abbrev pub OverlapsZ : Shape → Cube → Cube → Type 0
+OverlapsZ shape c d = OverlapsOn (axis_z shape) c.z c.edge d.z d.edge
+
+-- along the axis the second cube begins where the first one ends
+abbrev pub JoinsX : Shape → Cube → Cube → Type 0
+JoinsX shape c d = JoinsOn (axis_x shape) (c.x + c.edge) d.x
+
+abbrev pub JoinsY : Shape → Cube → Cube → Type 0
+JoinsY shape c d = JoinsOn (axis_y shape) (c.y + c.edge) d.y
+
+abbrev pub JoinsZ : Shape → Cube → Cube → Type 0
+JoinsZ shape c d = JoinsOn (axis_z shape) (c.z + c.edge) d.z
 
 -- this face of the first cube shares a part that has area with the second cube, which lies on its other side
-abbrev pub SharesFace : Face → Cube → Cube → Type 0
-SharesFace XLow c d = (d.x + d.edge ≡ c.x) × OverlapsY c d × OverlapsZ c d
-SharesFace XHigh c d = (c.x + c.edge ≡ d.x) × OverlapsY c d × OverlapsZ c d
-SharesFace YLow c d = (d.y + d.edge ≡ c.y) × OverlapsX c d × OverlapsZ c d
-SharesFace YHigh c d = (c.y + c.edge ≡ d.y) × OverlapsX c d × OverlapsZ c d
-SharesFace ZLow c d = (d.z + d.edge ≡ c.z) × OverlapsX c d × OverlapsY c d
-SharesFace ZHigh c d = (c.z + c.edge ≡ d.z) × OverlapsX c d × OverlapsY c d
+abbrev pub SharesFace : Shape → Face → Cube → Cube → Type 0
+SharesFace shape XLow c d = JoinsX shape d c × OverlapsY shape c d × OverlapsZ shape c d
+SharesFace shape XHigh c d = JoinsX shape c d × OverlapsY shape c d × OverlapsZ shape c d
+SharesFace shape YLow c d = JoinsY shape d c × OverlapsX shape c d × OverlapsZ shape c d
+SharesFace shape YHigh c d = JoinsY shape c d × OverlapsX shape c d × OverlapsZ shape c d
+SharesFace shape ZLow c d = JoinsZ shape d c × OverlapsX shape c d × OverlapsY shape c d
+SharesFace shape ZHigh c d = JoinsZ shape c d × OverlapsX shape c d × OverlapsY shape c d

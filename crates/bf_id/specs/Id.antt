@@ -5,7 +5,8 @@ use Rattle.std.specs.declared.cmp.Ordering.{Ordering}
 use Rattle.std.specs.Ordering.{nat_cmp, ordering_then}
 use lib.Pointwise.{pointwise}
 use Rattle.std.specs.Cmp.Lexicographic.{slice_cmp}
-use Rattle.bf_id.specs.Cube.{Cube, Meet, meet, narrowed}
+use Rattle.bf_id.specs.Cube.{Cube, narrowed}
+use Rattle.bf_id.specs.Meeting.{Meet, meet}
 use Rattle.bf_id.specs.Shape.{root_cube, root_count}
 use Rattle.bf_id.specs.declared.shape.Shape.{Shape}
 
@@ -43,7 +44,7 @@ InShape shape i = i.root < root_count shape
 
 -- two blocks touch where they differ and their closed boxes share a point
 abbrev pub Touch : Shape → BlockId → BlockId → Type 0
-Touch shape i j = (i ≢ j) × Meet (box_of shape i) (box_of shape j)
+Touch shape i j = (i ≢ j) × Meet shape (box_of shape i) (box_of shape j)
 
 -- the test of equality
 abbrev pub id_eq : BlockId → BlockId → Bool
@@ -59,7 +60,7 @@ Begins i j = (i.root ≡ j.root) × ((rest : List ℕ) × (j.digits ≡ i.digits
 
 -- the test of touching
 abbrev pub touches : Shape → BlockId → BlockId → Bool
-touches shape i j = not (id_eq i j) && meet (box_of shape i) (box_of shape j)
+touches shape i j = not (id_eq i j) && meet shape (box_of shape i) (box_of shape j)
 
 -- the block of which this is a child; a root is its own
 abbrev pub parent_of : BlockId → BlockId

@@ -1,5 +1,7 @@
 pub mod Cube
+pub mod Axis
 pub mod Shape
+pub mod Meeting
 pub mod Id
 pub mod IdFields
 pub mod Region

@@ -1,11 +1,22 @@
 -- The domain: a box of root blocks.
 use Rattle.std.specs.Prelude.{ℕ, ◌*◌, ◌/◌, ◌%◌, ◌<◌, ◌≤◌}
+use Rattle.bf_id.specs.Axis.{Axis}
 use Rattle.bf_id.specs.Cube.{Cube, Voxel}
 use Rattle.bf_id.specs.declared.shape.Shape.{Shape}
 
 -- the edge of a root, in units
 abbrev pub root_edge : ℕ
 root_edge = 16
+
+-- the three axes, in units
+abbrev pub axis_x : Shape → Axis
+axis_x shape = record { extent = root_edge * shape.nx }
+
+abbrev pub axis_y : Shape → Axis
+axis_y shape = record { extent = root_edge * shape.ny }
+
+abbrev pub axis_z : Shape → Axis
+axis_z shape = record { extent = root_edge * shape.nz }
 
 -- each axis has 1 to 16 roots
 pub record IsShape (shape : Shape) : Type 0 where

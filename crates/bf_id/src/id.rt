@@ -196,7 +196,7 @@ impl Id {
         requires other_inside { InShape shape other }
         ensures { IsTrue result ↔ Touch shape self other }
     {
-        self != other && self.region(shape).meets(other.region(shape))
+        self != other && self.region(shape).meets(other.region(shape), shape)
     }
 
     /// The face of this block of which a part that has area lies on the other block.
@@ -205,10 +205,10 @@ impl Id {
         requires inside { InShape shape self }
         requires other_inside { InShape shape other }
         ensures { MatchOption result
-            ((face : Face) → ¬ SharesFace face (box_of shape self) (box_of shape other))
-            (λ face. SharesFace face (box_of shape self) (box_of shape other)) }
+            ((face : Face) → ¬ SharesFace shape face (box_of shape self) (box_of shape other))
+            (λ face. SharesFace shape face (box_of shape self) (box_of shape other)) }
     {
-        self.region(shape).face(other.region(shape))
+        self.region(shape).face(other.region(shape), shape)
     }
 
     /// The root in decimal and, below a root, a full stop and the octants.

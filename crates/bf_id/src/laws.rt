@@ -2,7 +2,8 @@
 
 ghost use Rattle.std.specs.Prelude.{◌≡◌, ◌⊎◌, ℕ, ◌+◌, ◌*◌, ◌/◌, ◌%◌, ◌^◌, ◌<◌, ◌≤◌, List, map, Contains};
 ghost use Rattle.std.specs.List.{range_with_len};
-ghost use Rattle.bf_id.specs.Cube.{Cube, Voxel, Holds, Meet, Within, Apart};
+ghost use Rattle.bf_id.specs.Cube.{Cube, Voxel, Holds, Within, Apart};
+ghost use Rattle.bf_id.specs.Meeting.{Meet};
 ghost use Rattle.bf_id.specs.Shape.{IsShape, root_count, root_cube, InDomain};
 ghost use Rattle.bf_id.specs.Id.{BlockId, IsId, level_of, root_id, child_of, box_of, InShape, Touch, Begins};
 ghost use Rattle.bf_id.specs.Face.{SharesFace, opposite_of};
@@ -19,18 +20,18 @@ pub fn touching_is_symmetric()
 /// A face that a cube shares with another lies on the other as the opposite face.
 #[tactic(auto, using(crate::proofs::Cubes::opposite_face))]
 pub fn faces_are_opposite()
-    ensures { (f : Face) (c d : Cube) → SharesFace f c d → SharesFace (opposite_of f) d c }
+    ensures { (shape : Shape) (f : Face) (c d : Cube) → SharesFace shape f c d → SharesFace shape (opposite_of f) d c }
 {}
 
-/// Two cubes share one face at most, whatever their edges.
+/// Two cubes that are no wider than a root share one face at most.
 #[tactic(auto, using(crate::proofs::Cubes::one_face))]
 pub fn a_face_is_one()
-    ensures { (f g : Face) (c d : Cube) → SharesFace f c d → SharesFace g c d → f ≡ g }
+    ensures { (shape : Shape) (f g : Face) (c d : Cube) → IsShape shape → c.edge ≤ 16 → d.edge ≤ 16 → SharesFace shape f c d → SharesFace shape g c d → f ≡ g }
 {}
 
 /// Cubes that share a face meet.
 pub fn sharing_a_face_meets()
-    ensures { (f : Face) (c d : Cube) → SharesFace f c d → Meet c d }
+    ensures { (shape : Shape) (f : Face) (c d : Cube) → SharesFace shape f c d → Meet shape c d }
 {}
 
 /// The edge of a box is a root's edge, halved once for each level.

@@ -10,6 +10,7 @@
 //! and then all that lies in it, octant by octant.
 #![tactic(auto)]
 
+mod axis;
 mod face;
 mod id;
 mod id_text;
@@ -19,6 +20,7 @@ mod parse;
 mod region;
 mod shape;
 
+pub use axis::Axis;
 pub use face::Face;
 pub use id::Id;
 pub use id_text::IdText;

@@ -1,8 +1,11 @@
-ghost use Rattle.bf_id.specs.Cube.{halved, narrowed, Meet, Meets, Overlaps};
-ghost use Rattle.bf_id.specs.Face.{SharesFace, OverlapsX, OverlapsY, OverlapsZ};
+ghost use Rattle.bf_id.specs.Axis.{JoinsOn, MeetsOn, OverlapsOn};
+ghost use Rattle.bf_id.specs.Cube.{halved, narrowed, Meets, Overlaps};
+ghost use Rattle.bf_id.specs.Face.{JoinsX, JoinsY, JoinsZ, OverlapsX, OverlapsY, OverlapsZ, SharesFace};
+ghost use Rattle.bf_id.specs.Meeting.{Meet};
 ghost use Rattle.bf_id.specs.Shape.{root_count, root_cube, IsShape};
 ghost use Rattle.std.specs.Prelude.{◌≡◌, ◌+◌, ◌<◌, ◌≤◌, ◌↔◌, ◌∷◌, [], All, IsTrue, MatchOption};
 
+use crate::axis::Axis;
 use crate::face::Face;
 use crate::shape::Shape;
 use std::marker::Model;
@@ -77,86 +80,113 @@ impl Region {
     }
 
     /// Whether the closed cubes share a point.
-    pub(crate) fn meets(self, other: Region) -> bool
-        ensures { IsTrue result ↔ Meet self other }
+    pub(crate) fn meets(self, other: Region, shape: Shape) -> bool
+        requires domain { IsShape shape }
+        ensures { IsTrue result ↔ Meet shape self other }
     {
-        meet_along(self.x, self.edge, other.x, other.edge)
-            && meet_along(self.y, self.edge, other.y, other.edge)
-            && meet_along(self.z, self.edge, other.z, other.edge)
+        meet_along(Axis::x(shape), self.x, self.edge, other.x, other.edge)
+            && meet_along(Axis::y(shape), self.y, self.edge, other.y, other.edge)
+            && meet_along(Axis::z(shape), self.z, self.edge, other.z, other.edge)
     }
 
-    fn overlaps_x(self, other: Region) -> bool
-        ensures { IsTrue result ↔ OverlapsX self other }
+    fn overlaps_x(self, other: Region, shape: Shape) -> bool
+        requires domain { IsShape shape }
+        ensures { IsTrue result ↔ OverlapsX shape self other }
     {
-        overlap_along(self.x, self.edge, other.x, other.edge)
+        overlap_along(Axis::x(shape), self.x, self.edge, other.x, other.edge)
     }
 
-    fn overlaps_y(self, other: Region) -> bool
-        ensures { IsTrue result ↔ OverlapsY self other }
+    fn overlaps_y(self, other: Region, shape: Shape) -> bool
+        requires domain { IsShape shape }
+        ensures { IsTrue result ↔ OverlapsY shape self other }
     {
-        overlap_along(self.y, self.edge, other.y, other.edge)
+        overlap_along(Axis::y(shape), self.y, self.edge, other.y, other.edge)
     }
 
-    fn overlaps_z(self, other: Region) -> bool
-        ensures { IsTrue result ↔ OverlapsZ self other }
+    fn overlaps_z(self, other: Region, shape: Shape) -> bool
+        requires domain { IsShape shape }
+        ensures { IsTrue result ↔ OverlapsZ shape self other }
     {
-        overlap_along(self.z, self.edge, other.z, other.edge)
+        overlap_along(Axis::z(shape), self.z, self.edge, other.z, other.edge)
     }
 
-    fn shares(self, face: Face, other: Region) -> bool
-        ensures { IsTrue result ↔ SharesFace face self other }
+    fn joins_x(self, other: Region, shape: Shape) -> bool
+        requires domain { IsShape shape }
+        ensures { IsTrue result ↔ JoinsX shape self other }
+    {
+        join_at(Axis::x(shape), self.x + self.edge, other.x)
+    }
+
+    fn joins_y(self, other: Region, shape: Shape) -> bool
+        requires domain { IsShape shape }
+        ensures { IsTrue result ↔ JoinsY shape self other }
+    {
+        join_at(Axis::y(shape), self.y + self.edge, other.y)
+    }
+
+    fn joins_z(self, other: Region, shape: Shape) -> bool
+        requires domain { IsShape shape }
+        ensures { IsTrue result ↔ JoinsZ shape self other }
+    {
+        join_at(Axis::z(shape), self.z + self.edge, other.z)
+    }
+
+    fn shares(self, face: Face, other: Region, shape: Shape) -> bool
+        requires domain { IsShape shape }
+        ensures { IsTrue result ↔ SharesFace shape face self other }
     {
         match face {
             Face::XLow => {
-                ends_at(other.x, other.edge, self.x)
-                    && self.overlaps_y(other)
-                    && self.overlaps_z(other)
+                other.joins_x(self, shape)
+                    && self.overlaps_y(other, shape)
+                    && self.overlaps_z(other, shape)
             }
             Face::XHigh => {
-                ends_at(self.x, self.edge, other.x)
-                    && self.overlaps_y(other)
-                    && self.overlaps_z(other)
+                self.joins_x(other, shape)
+                    && self.overlaps_y(other, shape)
+                    && self.overlaps_z(other, shape)
             }
             Face::YLow => {
-                ends_at(other.y, other.edge, self.y)
-                    && self.overlaps_x(other)
-                    && self.overlaps_z(other)
+                other.joins_y(self, shape)
+                    && self.overlaps_x(other, shape)
+                    && self.overlaps_z(other, shape)
             }
             Face::YHigh => {
-                ends_at(self.y, self.edge, other.y)
-                    && self.overlaps_x(other)
-                    && self.overlaps_z(other)
+                self.joins_y(other, shape)
+                    && self.overlaps_x(other, shape)
+                    && self.overlaps_z(other, shape)
             }
             Face::ZLow => {
-                ends_at(other.z, other.edge, self.z)
-                    && self.overlaps_x(other)
-                    && self.overlaps_y(other)
+                other.joins_z(self, shape)
+                    && self.overlaps_x(other, shape)
+                    && self.overlaps_y(other, shape)
             }
             Face::ZHigh => {
-                ends_at(self.z, self.edge, other.z)
-                    && self.overlaps_x(other)
-                    && self.overlaps_y(other)
+                self.joins_z(other, shape)
+                    && self.overlaps_x(other, shape)
+                    && self.overlaps_y(other, shape)
             }
         }
     }
 
     /// The face of this cube that it shares with the other, which lies on its other side.
-    pub(crate) fn face(self, other: Region) -> Option<Face>
+    pub(crate) fn face(self, other: Region, shape: Shape) -> Option<Face>
+        requires domain { IsShape shape }
         ensures { MatchOption result
-            ((face : Face) → ¬ SharesFace face self other)
-            (λ face. SharesFace face self other) }
+            ((face : Face) → ¬ SharesFace shape face self other)
+            (λ face. SharesFace shape face self other) }
     {
-        if self.shares(Face::XLow, other) {
+        if self.shares(Face::XLow, other, shape) {
             Some(Face::XLow)
-        } else if self.shares(Face::XHigh, other) {
+        } else if self.shares(Face::XHigh, other, shape) {
             Some(Face::XHigh)
-        } else if self.shares(Face::YLow, other) {
+        } else if self.shares(Face::YLow, other, shape) {
             Some(Face::YLow)
-        } else if self.shares(Face::YHigh, other) {
+        } else if self.shares(Face::YHigh, other, shape) {
             Some(Face::YHigh)
-        } else if self.shares(Face::ZLow, other) {
+        } else if self.shares(Face::ZLow, other, shape) {
             Some(Face::ZLow)
-        } else if self.shares(Face::ZHigh, other) {
+        } else if self.shares(Face::ZHigh, other, shape) {
             Some(Face::ZHigh)
         } else {
             None
@@ -164,25 +194,46 @@ impl Region {
     }
 }
 
-fn ends_at(low: u32, length: u32, place: u32) -> bool
-    requires { low + length ≤ 256 }
-    ensures { IsTrue result ↔ (low + length ≡ place) }
+/// Whether these are one place of the axis.
+fn join_at(axis: Axis, end: u32, low: u32) -> bool
+    requires few { axis.extent ≤ 256 }
+    requires room { end ≤ 256 }
+    requires other_room { low ≤ 256 }
+    ensures { IsTrue result ↔ JoinsOn axis end low }
 {
-    low + length == place
+    end == low
 }
 
-fn meet_along(low: u32, length: u32, other_low: u32, other_length: u32) -> bool
-    requires room { low + length ≤ 256 }
-    requires other_room { other_low + other_length ≤ 256 }
+fn meet_at(low: u32, length: u32, other_low: u32, other_length: u32) -> bool
+    requires room { low + length ≤ 512 }
+    requires other_room { other_low + other_length ≤ 512 }
     ensures { IsTrue result ↔ Meets low length other_low other_length }
 {
     low <= other_low + other_length && other_low <= low + length
 }
 
-fn overlap_along(low: u32, length: u32, other_low: u32, other_length: u32) -> bool
+fn meet_along(axis: Axis, low: u32, length: u32, other_low: u32, other_length: u32) -> bool
+    requires few { axis.extent ≤ 256 }
     requires room { low + length ≤ 256 }
     requires other_room { other_low + other_length ≤ 256 }
+    ensures { IsTrue result ↔ MeetsOn axis low length other_low other_length }
+{
+    meet_at(low, length, other_low, other_length)
+}
+
+fn overlap_at(low: u32, length: u32, other_low: u32, other_length: u32) -> bool
+    requires room { low + length ≤ 512 }
+    requires other_room { other_low + other_length ≤ 512 }
     ensures { IsTrue result ↔ Overlaps low length other_low other_length }
 {
     low < other_low + other_length && other_low < low + length
+}
+
+fn overlap_along(axis: Axis, low: u32, length: u32, other_low: u32, other_length: u32) -> bool
+    requires few { axis.extent ≤ 256 }
+    requires room { low + length ≤ 256 }
+    requires other_room { other_low + other_length ≤ 256 }
+    ensures { IsTrue result ↔ OverlapsOn axis low length other_low other_length }
+{
+    overlap_at(low, length, other_low, other_length)
 }

@@ -1,16 +1,16 @@
 -- A leaf of a map, and the walls that are laid next to its faces.
-use Rattle.std.proofs.Common.{◌≡◌, ◌≢◌, ℕ, ◌+◌, ◌-◌, ◌*◌, ◌/◌, ◌%◌, ◌<◌, ◌≤◌, ◌&&◌, List, Contains, get_or, cond, eqb, refl, sym, ap, subst, ◌∙◌, arith, inl, inr}
+use Rattle.std.proofs.Common.{◌≡◌, ◌≢◌, ℕ, ◌+◌, ◌*◌, ◌/◌, ◌%◌, ◌<◌, ◌≤◌, ◌&&◌, List, Contains, get_or, cond, eqb, refl, sym, ap, subst, ◌∙◌, arith, inl, inr}
 use Rattle.std.proofs.lemmas.Bool.{cases_eq}
 use Rattle.std.proofs.lemmas.Bool.Decides.{nat_tests}
 use Rattle.std.proofs.lemmas.Nat.{div_below}
-use Rattle.std.proofs.Math.Nat.{div-add-mod, mod-lt, mul-div_left}
+use Rattle.std.proofs.Math.Nat.{div-add-mod, mod-lt}
 use Rattle.std.proofs.lemmas.List.Elements.{All-contains}
 use Rattle.bf_id.specs.declared.shape.Shape.{Shape}
 use Rattle.bf_id.specs.declared.face.Face.{Face}
 use Rattle.bf_id.specs.declared.face.Face.TheVariants.{XLow, XHigh, YLow, YHigh, ZLow, ZHigh}
 use Rattle.bf_id.specs.Cube.{Cube, Voxel, Holds}
 use Rattle.bf_id.specs.Face.{number_of, opposite_of}
-use Rattle.bf_id.specs.Id.{BlockId, IsId, InShape, box_of, level_of}
+use Rattle.bf_id.specs.Id.{BlockId, IsId, InShape, box_of, level_of, octant_of}
 use Rattle.bf_id.specs.Shape.{IsShape, InDomain}
 use Rattle.bf_cells.specs.Grid.{Grid}
 use Rattle.bf_cells.specs.Levels.{doubled_face, face_mean, in_quarter, with_quarter}
@@ -18,16 +18,18 @@ use Rattle.bf_cells.specs.Shell.{Walls, face_cell, face_values, wall_at, wall_of
 use Rattle.bf_cells.proofs.LevelLemmas.{get_or-doubled_face, get_or-with_quarter}
 use Rattle.bf_cells.proofs.WallLemmas.{get_or-face_values, side-with_wall, wall_of-with_wall_other, wall_of-with_wall_same}
 use Rattle.bf_case.specs.declared.case.Case.{Case}
-use Rattle.bf_case.specs.Beside.{first_low, second_low, unit_across, value_beside, HoldsBeside, IsAtEdge, LiesAcross}
+use Rattle.bf_case.specs.Beside.{unit_across, value_beside, HoldsBeside, IsAtEdge, LiesAcross}
 use Rattle.bf_case.specs.Map.{Leaf, HasCells, IsMap, ids_of}
 use Rattle.bf_case.specs.Sample.{scale_of}
-use Rattle.bf_case.proofs.AcrossLemmas.{EndsIn, across_in_domain, coarser_beside, edge_beside, finer_beside, finer_everywhere, half_within, halves_across, leaf_edge, levels_near, same_beside}
+use Rattle.bf_case.proofs.AcrossLemmas.{EndsIn, across_in_domain, across_leaves, edge_beside, finer_beside, finer_everywhere, half_within, leaf_edge, levels_near, same_beside}
+use Rattle.bf_case.proofs.FaceLemmas.{coarser_shares}
+use Rattle.bf_case.specs.Halves.{first_half, second_half, ShareFace}
 use Rattle.bf_case.proofs.BlockSteps.{box_ends}
 use Rattle.bf_case.proofs.ListLemmas.{Contains-map}
 use Rattle.bf_plain.specs.Atlas.{Chart}
 use Rattle.bf_plain.specs.Places.{IsPlaced}
 use Rattle.bf_plain.proofs.PlaceLemmas.{box_is_placed}
-use Rattle.bf_plain.specs.Survey.{half_of, IsFinerAcross, IsHalf, IsNarrow, IsSite, KeepsOthers}
+use Rattle.bf_plain.specs.Survey.{IsFinerAcross, IsNarrow, IsSite, KeepsOthers}
 
 -- ---- the leaf
 
@@ -80,7 +82,7 @@ narrow c leaves chart i g box site =
 
 -- the unit across an inner face lies in the domain
 pub unit_in_domain : (c : Case) (leaves : List Leaf) (chart : Chart) (i : BlockId) (g : Grid) (box : Cube) (face : Face) (a b : ℕ) (unit : Voxel)
-    → IsSite c leaves chart i g box → (IsAtEdge c.roots box face → ⊥) → a < box.edge → b < box.edge → unit ≡ unit_across box face a b → InDomain c.roots unit
+    → IsSite c leaves chart i g box → (IsAtEdge c.roots box face → ⊥) → a < box.edge → b < box.edge → unit ≡ unit_across c.roots box face a b → InDomain c.roots unit
 unit_in_domain c leaves chart i g box face a b unit site inner a_in b_in is =
     let ends : EndsIn c.roots box (scale_of (level_of i)) = subst (λ d. EndsIn c.roots d (scale_of (level_of i))) (sym site.boxed) (known c leaves chart i g box site).ends in
     subst (InDomain c.roots) (sym is) (across_in_domain c.roots box (scale_of (level_of i)) face a b ends inner a_in b_in)
@@ -88,7 +90,7 @@ unit_in_domain c leaves chart i g box face a b unit site inner a_in b_in is =
 -- as is that beside a quarter of the face
 pub quarter_in_domain : (c : Case) (leaves : List Leaf) (chart : Chart) (i : BlockId) (g : Grid) (box : Cube) (face : Face) (half_a half_b : ℕ) (unit : Voxel)
     → IsSite c leaves chart i g box → (IsAtEdge c.roots box face → ⊥) → half_a < 2 → half_b < 2
-    → unit ≡ unit_across box face (half_a * (box.edge / 2)) (half_b * (box.edge / 2)) → InDomain c.roots unit
+    → unit ≡ unit_across c.roots box face (half_a * (box.edge / 2)) (half_b * (box.edge / 2)) → InDomain c.roots unit
 quarter_in_domain c leaves chart i g box face half_a half_b unit site inner bit_a bit_b is =
     let some = (placed c leaves chart i g box site).some in
     unit_in_domain c leaves chart i g box face (half_a * (box.edge / 2)) (half_b * (box.edge / 2)) unit site inner
@@ -101,14 +103,14 @@ inner_face c leaves chart i g box face site across at = across.lies.inner (subst
 
 -- the leaf that has it lies across
 pub lies_across : (c : Case) (leaves : List Leaf) (chart : Chart) (i : BlockId) (g : Grid) (box : Cube) (face : Face) (a b : ℕ) (unit : Voxel) (other : Leaf)
-    → IsSite c leaves chart i g box → (IsAtEdge c.roots box face → ⊥) → unit ≡ unit_across box face a b
+    → IsSite c leaves chart i g box → (IsAtEdge c.roots box face → ⊥) → unit ≡ unit_across c.roots box face a b
     → Contains leaves other → Holds (box_of c.roots other.0) unit → LiesAcross c.roots c.side leaves (i, g) face a b other
 lies_across c leaves chart i g box face a b unit other site inner is has held = record {
   map = site.charted.map.map;
   own_in = site.found;
   other_in = has;
   inner = subst (λ d. IsAtEdge c.roots d face → ⊥) site.boxed inner;
-  held = subst (λ d. Holds (box_of c.roots other.0) (unit_across d face a b)) site.boxed (subst (Holds (box_of c.roots other.0)) is held);
+  held = subst (λ d. Holds (box_of c.roots other.0) (unit_across c.roots d face a b)) site.boxed (subst (Holds (box_of c.roots other.0)) is held);
 }
 
 -- and is of a level beside the leaf's
@@ -118,7 +120,7 @@ pub record IsMet (c : Case) (leaves : List Leaf) (i : BlockId) (g : Grid) (face 
   pub no_finer : level_of other.0 ≤ level_of i + 1
 
 pub met : (c : Case) (leaves : List Leaf) (chart : Chart) (i : BlockId) (g : Grid) (box : Cube) (face : Face) (unit : Voxel) (other : Leaf)
-    → IsSite c leaves chart i g box → (IsAtEdge c.roots box face → ⊥) → unit ≡ unit_across box face 0 0
+    → IsSite c leaves chart i g box → (IsAtEdge c.roots box face → ⊥) → unit ≡ unit_across c.roots box face 0 0
     → Contains leaves other → Holds (box_of c.roots other.0) unit → IsMet c leaves i g face other
 met c leaves chart i g box face unit other site inner is has held =
     let facts = known c leaves chart i g box site in
@@ -207,49 +209,26 @@ same_holds c leaves chart i j g h box face old new site lies level fits is a b a
     ∙ get_or-face_values h n a b (omega arith) (omega arith)
     ∙ sym (same_beside c.roots c.side leaves i j g h face a b facts.domain lies level (omega arith) (omega arith))
 
-pub coarser_holds : (c : Case) (leaves : List Leaf) (chart : Chart) (i j : BlockId) (g h : Grid) (box whole : Cube) (face : Face) (old new : Walls)
-    → IsSite c leaves chart i g box → LiesAcross c.roots c.side leaves (i, g) face 0 0 (j, h) → level_of j + 1 ≡ level_of i → whole ≡ box_of c.roots j
-    → IsHalf (first_low face whole) (first_low face box) box.edge → IsHalf (second_low face whole) (second_low face box) box.edge → old.side ≡ c.side
-    → new ≡ with_wall old (number_of face) (doubled_face h (number_of (opposite_of face))
-    (half_of (first_low face whole) (first_low face box) box.edge) (half_of (second_low face whole) (second_low face box) box.edge))
+pub coarser_holds : (c : Case) (leaves : List Leaf) (chart : Chart) (i j : BlockId) (g h : Grid) (box : Cube) (face : Face) (old new : Walls)
+    → IsSite c leaves chart i g box → LiesAcross c.roots c.side leaves (i, g) face 0 0 (j, h) → level_of j + 1 ≡ level_of i → old.side ≡ c.side
+    → new ≡ with_wall old (number_of face) (doubled_face h (number_of (opposite_of face)) (first_half face (octant_of i)) (second_half face (octant_of i)))
     → HoldsBeside c.roots leaves i g new face
-coarser_holds c leaves chart i j g h box whole face old new site lies level boxed first second fits is a b a_in b_in =
+coarser_holds c leaves chart i j g h box face old new site lies level fits is a b a_in b_in =
     let facts = known c leaves chart i g box site in
     let side = facts.fits in
     let side_too = cells_fit c leaves j h lies.map lies.other_in in
     let n = number_of (opposite_of face) in
-    let half_a = half_of (first_low face whole) (first_low face box) box.edge in
-    let half_b = half_of (second_low face whole) (second_low face box) box.edge in
-    let Lies : (Face → Cube → ℕ) → ℕ → Cube → Cube → Type 0 = λ low half own other. low face own ≡ low face other + half * own.edge in
-    let first_is : Lies first_low half_a (box_of c.roots i) (box_of c.roots j) = subst (λ d. Lies first_low half_a d (box_of c.roots j)) site.boxed (subst (Lies first_low half_a box) boxed first.exact) in
-    let second_is : Lies second_low half_b (box_of c.roots i) (box_of c.roots j) = subst (λ d. Lies second_low half_b d (box_of c.roots j)) site.boxed (subst (Lies second_low half_b box) boxed second.exact) in
+    let half_a = first_half face (octant_of i) in
+    let half_b = second_half face (octant_of i) in
+    let e = facts.ends.edge in
+    let wide = facts.ends.wide in
+    let some : 0 < (box_of c.roots i).edge = omega arith in
+    let are : ShareFace c.roots c.side leaves (i, g) face (j, h) =
+    record { domain = facts.domain; map = lies.map; own_in = lies.own_in; other_in = lies.other_in; share = (across_leaves c.roots c.side leaves i j g h face 0 0 facts.domain lies some some).share } in
     laid_at old new face (doubled_face h n half_a half_b) h.side is (fits ∙ sym side_too) a b
     ∙ get_or-doubled_face h n half_a half_b a b (omega arith) (omega arith)
     ∙ ap (λ s. face_cell h n (half_a * (s / 2) + a / 2) (half_b * (s / 2) + b / 2)) side_too
-    ∙ sym (coarser_beside c.roots c.side leaves i j g h face half_a half_b a b facts.domain lies level first.bit first_is second.bit second_is (omega arith) (omega arith))
-
--- a half by its number
-pub is_half : (whole low length half : ℕ) → 0 < length → half < 2 → low ≡ whole + half * length → IsHalf whole low length
-is_half whole low length half some bit is =
-    let less : low - whole ≡ half * length = omega arith in
-    let same : half_of whole low length ≡ half = ap (λ n. n / length) less ∙ mul-div_left half some in
-    record { after = omega arith; bit = omega arith; exact = rw same is }
-
-pub both_halves : (c : Case) (leaves : List Leaf) (chart : Chart) (i j : BlockId) (g h : Grid) (box whole : Cube) (face : Face)
-    → IsSite c leaves chart i g box → LiesAcross c.roots c.side leaves (i, g) face 0 0 (j, h) → level_of j + 1 ≡ level_of i → whole ≡ box_of c.roots j
-    → IsHalf (first_low face whole) (first_low face box) box.edge × IsHalf (second_low face whole) (second_low face box) box.edge
-both_halves c leaves chart i j g h box whole face site lies level boxed =
-    let facts = known c leaves chart i g box site in
-    let halves = halves_across c.roots c.side leaves i j g h face facts.domain lies level in
-    let edge = facts.ends.edge in
-    let wide = facts.ends.wide in
-    let some : 0 < (box_of c.roots i).edge = omega arith in
-    let Both : Cube → Cube → Type 0 = λ own other. IsHalf (first_low face other) (first_low face own) own.edge × IsHalf (second_low face other) (second_low face own) own.edge in
-    let here : Both (box_of c.roots i) (box_of c.roots j) = (
-      is_half _ _ _ halves.0.0 some halves.0.1 halves.0.2,
-      is_half _ _ _ halves.1.0 some halves.1.1 halves.1.2,
-    ) in
-    subst (λ d. Both d whole) (sym site.boxed) (subst (Both (box_of c.roots i)) (sym boxed) here)
+    ∙ sym (coarser_shares c.roots c.side leaves i j g h face a b are level (omega arith) (omega arith))
 
 -- ---- quarters
 

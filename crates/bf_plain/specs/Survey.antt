@@ -1,5 +1,5 @@
 -- A map with its chart, and the leaves across the faces of its leaves.
-use Rattle.std.specs.Prelude.{◌≡◌, ◌≢◌, ℕ, ◌+◌, ◌-◌, ◌*◌, ◌/◌, ◌<◌, ◌≤◌, List, Contains}
+use Rattle.std.specs.Prelude.{◌≡◌, ◌≢◌, ◌+◌, ◌≤◌, List, Contains}
 use Rattle.bf_id.specs.Cube.{Cube}
 use Rattle.bf_id.specs.Face.{number_of}
 use Rattle.bf_id.specs.Id.{BlockId, box_of, level_of}
@@ -29,16 +29,6 @@ pub record IsFinerAcross (c : Case) (leaves : List Leaf) (i : BlockId) (g : Grid
   pub other : Leaf
   pub lies : LiesAcross c.roots c.side leaves (i, g) face 0 0 other
   pub finer : level_of other.0 ≡ level_of i + 1
-
--- along one axis, as which half of a stretch that begins at `whole` one of this length lies
-abbrev pub half_of : ℕ → ℕ → ℕ → ℕ
-half_of whole low length = (low - whole) / length
-
--- it is one of the two halves
-pub record IsHalf (whole low length : ℕ) : Type 0 where
-  pub after : whole ≤ low
-  pub bit : half_of whole low length < 2
-  pub exact : low ≡ whole + half_of whole low length * length
 
 -- the cube ends where the widest domain does, or before
 pub record IsNarrow (c : Cube) : Type 0 where

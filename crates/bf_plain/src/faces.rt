@@ -1,14 +1,16 @@
 //! The faces of a block's box, and the units across them.
 ghost use Rattle.std.specs.Prelude.{◌≡◌, ◌+◌, ◌*◌, ◌/◌, ◌<◌, ◌≤◌, ◌↔◌, IsTrue};
 ghost use Rattle.bf_id.specs.Face.{number_of};
+ghost use Rattle.bf_id.specs.Id.{octant_of};
 ghost use Rattle.bf_id.specs.Shape.{IsShape};
-ghost use Rattle.bf_case.specs.Beside.{first_low, second_low, unit_across, IsAtEdge};
+ghost use Rattle.bf_case.specs.Beside.{unit_across, IsAtEdge};
+ghost use Rattle.bf_case.specs.Halves.{first_half, second_half};
 ghost use Rattle.bf_plain.specs.Places.{IsPlaced};
 ghost use Rattle.bf_plain.specs.Survey.{IsNarrow};
 
 use crate::atlas::Voxel;
 use crate::places::Block;
-use bf_id::{Face, Shape};
+use bf_id::{Axis, Face, Id, Shape};
 
 /// The face of a number.
 pub(crate) fn face_at(number: usize) -> Face
@@ -26,86 +28,94 @@ impl Block {
         ensures { IsTrue result ↔ IsAtEdge shape self face }
     {
         match face {
-            Face::XLow => self.x == 0,
-            Face::XHigh => self.x + self.edge == 16 * shape.nx,
-            Face::YLow => self.y == 0,
-            Face::YHigh => self.y + self.edge == 16 * shape.ny,
-            Face::ZLow => self.z == 0,
-            Face::ZHigh => self.z + self.edge == 16 * shape.nz,
+            Face::XLow => Axis::x(shape).is_first(self.x),
+            Face::XHigh => Axis::x(shape).is_last(self.x + self.edge),
+            Face::YLow => Axis::y(shape).is_first(self.y),
+            Face::YHigh => Axis::y(shape).is_last(self.y + self.edge),
+            Face::ZLow => Axis::z(shape).is_first(self.z),
+            Face::ZHigh => Axis::z(shape).is_last(self.z + self.edge),
         }
     }
 
     /// The unit just across a face, so many units on from where the face begins along its two axes.
-    pub(crate) fn across(self, face: Face, a: u32, b: u32) -> Voxel
+    pub(crate) fn across(self, shape: Shape, face: Face, a: u32, b: u32) -> Voxel
+        requires domain { IsShape shape }
         requires narrow { IsNarrow self }
         requires a_in { a < self.edge }
         requires b_in { b < self.edge }
-        ensures { result ≡ unit_across self face a b }
+        ensures { result ≡ unit_across shape self face a b }
     {
         let Block { x, y, z, edge } = self;
         match face {
             Face::XLow => Voxel {
-                x: x.saturating_sub(1),
+                x: Axis::x(shape).back(1, x),
                 y: y + a,
                 z: z + b,
             },
             Face::XHigh => Voxel {
-                x: x + edge,
+                x: Axis::x(shape).on(edge, x),
                 y: y + a,
                 z: z + b,
             },
             Face::YLow => Voxel {
                 x: x + a,
-                y: y.saturating_sub(1),
+                y: Axis::y(shape).back(1, y),
                 z: z + b,
             },
             Face::YHigh => Voxel {
                 x: x + a,
-                y: y + edge,
+                y: Axis::y(shape).on(edge, y),
                 z: z + b,
             },
             Face::ZLow => Voxel {
                 x: x + a,
                 y: y + b,
-                z: z.saturating_sub(1),
+                z: Axis::z(shape).back(1, z),
             },
             Face::ZHigh => Voxel {
                 x: x + a,
                 y: y + b,
-                z: z + edge,
+                z: Axis::z(shape).on(edge, z),
             },
         }
     }
 
     /// The unit just across a face where a quarter of the face begins, which is told by its halves along the face's two axes.
-    pub(crate) fn across_quarter(self, face: Face, half_a: u32, half_b: u32) -> Voxel
+    pub(crate) fn across_quarter(self, shape: Shape, face: Face, half_a: u32, half_b: u32) -> Voxel
+        requires domain { IsShape shape }
         requires narrow { IsNarrow self }
         requires some { 0 < self.edge }
         requires half_a { half_a < 2 }
         requires half_b { half_b < 2 }
-        ensures { result ≡ unit_across self face (half_a * (self.edge / 2)) (half_b * (self.edge / 2)) }
+        ensures { result ≡ unit_across shape self face (half_a * (self.edge / 2)) (half_b * (self.edge / 2)) }
     {
         let half = self.edge / 2;
-        self.across(face, half_a * half, half_b * half)
+        self.across(shape, face, half_a * half, half_b * half)
     }
+}
 
-    /// Where the box begins along the first of a face's two axes.
-    pub(crate) fn first_low(self, face: Face) -> u32
-        ensures { result ≡ first_low face self }
-    {
-        match face {
-            Face::XLow | Face::XHigh => self.y,
-            _ => self.x,
-        }
+/// On which half of its parent the child towards an octant lies, along the first of a face's two axes and along the second.
+pub(crate) fn halves(face: Face, octant: u32) -> (u32, u32)
+    requires { octant < 8 }
+    ensures first { result.0 ≡ first_half face octant }
+    ensures second { result.1 ≡ second_half face octant }
+    ensures first_bit { result.0 < 2 }
+    ensures second_bit { result.1 < 2 }
+{
+    match face {
+        Face::XLow | Face::XHigh => (octant / 2 % 2, octant / 4),
+        Face::YLow | Face::YHigh => (octant % 2, octant / 4),
+        Face::ZLow | Face::ZHigh => (octant % 2, octant / 2 % 2),
     }
+}
 
-    /// Where the box begins along the second.
-    pub(crate) fn second_low(self, face: Face) -> u32
-        ensures { result ≡ second_low face self }
-    {
-        match face {
-            Face::ZLow | Face::ZHigh => self.y,
-            _ => self.z,
-        }
+/// The octant of its parent that a block is; 0 for a root.
+pub(crate) fn octant_of(id: Id) -> u32
+    ensures value { result ≡ octant_of id }
+    ensures octal { result < 8 }
+{
+    match id.octant() {
+        Some(octant) => octant,
+        None => 0,
     }
 }

@@ -1,11 +1,11 @@
 //! The units beside a block.
-ghost use Rattle.std.specs.Prelude.{◌≡◌, ℕ, ◌+◌, ◌-◌, ◌*◌, ◌/◌, ◌%◌, ◌<◌, ◌≤◌};
+ghost use Rattle.std.specs.Prelude.{◌≡◌, ℕ, ◌+◌, ◌-◌, ◌*◌, ◌/◌, ◌%◌, ◌<◌, ◌≤◌, Bool};
 ghost use Rattle.bf_id.specs.Id.{box_of, InShape};
 ghost use Rattle.bf_id.specs.Shape.{IsShape, InDomain};
 ghost use Rattle.bf_plain.specs.Places.{place_beside, unit_beside, IsPlaced};
 
 use crate::atlas::Voxel;
-use bf_id::{Id, Shape};
+use bf_id::{Axis, Id, Shape};
 use std::marker::Model;
 
 /// The box of a block, in units.
@@ -27,18 +27,31 @@ impl Model for Block {
     ghost inverse = { λ c. record { x = c.x; y = c.y; z = c.z; edge = c.edge } };
 }
 
-/// Along one axis, of `end` units, one of three beside a stretch, by its side: 0 for the last before it, 1 for its first, 2 for
-/// the first after it. At the end of the axis a unit of the stretch stands for one that lies outside.
-fn unit_beside(low: u32, length: u32, end: u32, side: u32) -> u32
-    requires room { low + length ≤ end }
+/// Along one axis, one of three units beside a stretch, by its side: 0 for the last before it, 1 for its first, 2 for the first
+/// after it. At the domain's edge the first of the stretch stands for one that lies outside.
+fn unit_beside(axis: Axis, low: u32, length: u32, side: u32) -> u32
+    requires room { low + length ≤ axis.extent }
     requires some { 0 < length }
-    ensures exact { result ≡ unit_beside low length end side }
-    ensures inside { result < end }
+    requires few { axis.extent ≤ 256 }
+    ensures exact { result ≡ unit_beside axis low length side }
+    ensures inside { result < axis.extent }
 {
     match side {
-        0 => low.saturating_sub(1),
+        0 => {
+            if axis.is_first(low) {
+                low
+            } else {
+                axis.back(1, low)
+            }
+        }
         1 => low,
-        _ => (low + length).min(end - 1),
+        _ => {
+            if axis.is_last(low + length) {
+                low
+            } else {
+                axis.on(length, low)
+            }
+        }
     }
 }
 
@@ -66,9 +79,9 @@ impl Block {
         ensures inside { InDomain shape result }
     {
         Voxel {
-            x: unit_beside(self.x, self.edge, 16 * shape.nx, step % 3),
-            y: unit_beside(self.y, self.edge, 16 * shape.ny, step / 3 % 3),
-            z: unit_beside(self.z, self.edge, 16 * shape.nz, step / 9),
+            x: unit_beside(Axis::x(shape), self.x, self.edge, step % 3),
+            y: unit_beside(Axis::y(shape), self.y, self.edge, step / 3 % 3),
+            z: unit_beside(Axis::z(shape), self.z, self.edge, step / 9),
         }
     }
 }

@@ -2,15 +2,16 @@
 ghost use Rattle.std.specs.Prelude.{◌≡◌, ℕ, ◌+◌, ◌-◌, ◌*◌, ◌/◌, ◌%◌, ◌<◌, ◌≤◌, length, Contains};
 ghost use Rattle.bf_id.specs.Cube.{Holds};
 ghost use Rattle.bf_id.specs.Face.{number_of, opposite_of};
-ghost use Rattle.bf_id.specs.Id.{box_of, level_of};
+ghost use Rattle.bf_id.specs.Id.{box_of, level_of, octant_of};
 ghost use Rattle.bf_id.specs.Shape.{InDomain};
 ghost use Rattle.bf_cells.specs.Levels.{doubled_face};
 ghost use Rattle.bf_cells.specs.Shell.{with_wall};
-ghost use Rattle.bf_case.specs.Beside.{first_low, second_low, HoldsBeside, HoldSamples, IsAtEdge};
-ghost use Rattle.bf_plain.specs.Survey.{half_of, IsCharted, IsFinerAcross, IsHalf, IsSite, KeepsOthers};
+ghost use Rattle.bf_case.specs.Beside.{HoldsBeside, HoldSamples, IsAtEdge};
+ghost use Rattle.bf_case.specs.Halves.{first_half, second_half};
+ghost use Rattle.bf_plain.specs.Survey.{IsCharted, IsFinerAcross, IsSite, KeepsOthers};
 
 use crate::atlas::{Atlas, Voxel};
-use crate::faces::face_at;
+use crate::faces::{face_at, halves, octant_of};
 use crate::places::Block;
 use bf_case::Case;
 use bf_cells::{Cells, Shell};
@@ -33,18 +34,13 @@ pub(crate) struct Site<'a> {
 }
 
 /// Lays next to a face of a block the quarter that lies across it of a leaf one level coarser.
-fn lay_coarser(shell: &mut Shell, block: Block, face: Face, whole: Block, cells: &Cells)
-    requires some { 0 < block.edge }
-    requires first { IsHalf (first_low face whole) (first_low face block) block.edge }
-    requires second { IsHalf (second_low face whole) (second_low face block) block.edge }
-    requires sides { cells.now.side ≡ shell.old.side }
+fn lay_coarser(shell: &mut Shell, id: Id, face: Face, cells: &Cells)
+    requires { cells.now.side ≡ shell.old.side }
     ensures wall { shell.new ≡ with_wall shell.old (number_of face) (doubled_face cells.now (number_of (opposite_of face))
-        (half_of (first_low face whole) (first_low face block) block.edge)
-        (half_of (second_low face whole) (second_low face block) block.edge)) }
+        (first_half face (octant_of id)) (second_half face (octant_of id))) }
     ensures side { shell.new.side ≡ shell.old.side }
 {
-    let half_a = (block.first_low(face) - whole.first_low(face)) / block.edge;
-    let half_b = (block.second_low(face) - whole.second_low(face)) / block.edge;
+    let (half_a, half_b) = halves(face, octant_of(id));
     shell.set_wall_doubled(
         face.number(),
         cells,
@@ -77,7 +73,9 @@ impl<'a> Survey<'a> {
         for quarter in 0..4 {
             let half_a = quarter % 2;
             let half_b = quarter / 2;
-            let unit = site.block.across_quarter(face, half_a, half_b);
+            let unit = site
+                .block
+                .across_quarter(self.case.roots, face, half_a, half_b);
             let (_, cells) = self.leaf_with(unit);
             shell.set_quarter_means(
                 face.number(),
@@ -98,13 +96,12 @@ impl<'a> Survey<'a> {
         ensures others { KeepsOthers shell.old shell.new face }
         ensures side { shell.new.side ≡ shell.old.side }
     {
-        let unit = site.block.across(face, 0, 0);
+        let unit = site.block.across(self.case.roots, face, 0, 0);
         let (other, cells) = self.leaf_with(unit);
         if other.level() > site.id.level() {
             self.lay_finer(shell, site, face);
         } else if other.level() < site.id.level() {
-            let whole = Block::of(*other, self.case.roots);
-            lay_coarser(shell, site.block, face, whole, cells);
+            lay_coarser(shell, site.id, face, cells);
         } else {
             shell.set_wall(face.number(), cells, face.opposite().number());
         }

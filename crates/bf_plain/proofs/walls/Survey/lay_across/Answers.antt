@@ -1,6 +1,6 @@
 use Rattle.std.proofs.Common.{◌≡◌, ◌+◌, ◌<◌, arith, ◌∙◌, sym}
 use Rattle.bf_id.specs.Id.{level_of}
-use Rattle.bf_plain.proofs.SiteLemmas.{both_halves, cells_fit, coarser_holds, keeps, leaf_in_domain, met, narrow, placed, same_holds, unit_in_domain}
+use Rattle.bf_plain.proofs.SiteLemmas.{cells_fit, coarser_holds, keeps, met, narrow, placed, same_holds, unit_in_domain}
 use Rattle.bf_plain.proofs.walls.Survey.lay_across.Goals as goal
 
 pub across-unit-requires : goal.across-unit-requires
@@ -9,7 +9,7 @@ across-unit-requires c =
     let s = c.args.site.now in
     let site = c.requires.site in
     let some = (placed m.case.now m.leaves.now m.atlas.now s.id s.cells.now s.block site).some in
-    record { narrow = narrow m.case.now m.leaves.now m.atlas.now s.id s.cells.now s.block site; a_in = some; b_in = some }
+    record { domain = site.charted.valid.sized.shape; narrow = narrow m.case.now m.leaves.now m.atlas.now s.id s.cells.now s.block site; a_in = some; b_in = some }
 
 pub leaf_with-requires-clause-inside : goal.leaf_with-requires-clause-inside
 leaf_with-requires-clause-inside c =
@@ -33,54 +33,8 @@ lay_finer-requires-clause-finer c =
     let above : c.level-2.result < c.level.result = c.if-level.true in
     record { other = found; lies = crossing.lies; finer = omega arith }
 
-pub of-whole-requires-clause-inside : goal.of-whole-requires-clause-inside
-of-whole-requires-clause-inside c =
-    let m = c.args.self in
-    let s = c.args.site.now in
-    let site = c.requires.site in
-    leaf_in_domain m.case.now m.leaves.now m.atlas.now s.id s.cells.now s.block c.leaf_with.result.now site c.leaf_with.ensures.found
-
-pub lay_coarser-requires-clause-some : goal.lay_coarser-requires-clause-some
-lay_coarser-requires-clause-some c =
-    let m = c.args.self in
-    let s = c.args.site.now in
-    let site = c.requires.site in
-    (placed m.case.now m.leaves.now m.atlas.now s.id s.cells.now s.block site).some
-
-pub lay_coarser-requires-clause-first : goal.lay_coarser-requires-clause-first
-lay_coarser-requires-clause-first c =
-    let m = c.args.self in
-    let s = c.args.site.now in
-    let site = c.requires.site in
-    let found = c.leaf_with.result.now in
-    let crossing = met m.case.now m.leaves.now m.atlas.now s.id s.cells.now s.block c.args.face c.across-unit.result found site c.requires.inner
-    c.across-unit.ensures c.leaf_with.ensures.found c.leaf_with.ensures.holds in
-    let no_coarser = crossing.no_coarser in
-    let own : c.level-else-level-2.result ≡ level_of s.id = c.level-else-level-2.ensures.level in
-    let its : c.level-else-level.result ≡ level_of found.0 = c.level-else-level.ensures.level in
-    let below : c.level-else-level.result < c.level-else-level-2.result = c.if-level-2.true in
-    let level : level_of found.0 + 1 ≡ level_of s.id = omega arith in
-    let halves = both_halves m.case.now m.leaves.now m.atlas.now s.id found.0 s.cells.now found.1 s.block c.of-whole.result c.args.face site crossing.lies level c.of-whole.ensures in
-    halves.0
-
-pub lay_coarser-requires-clause-second : goal.lay_coarser-requires-clause-second
-lay_coarser-requires-clause-second c =
-    let m = c.args.self in
-    let s = c.args.site.now in
-    let site = c.requires.site in
-    let found = c.leaf_with.result.now in
-    let crossing = met m.case.now m.leaves.now m.atlas.now s.id s.cells.now s.block c.args.face c.across-unit.result found site c.requires.inner
-    c.across-unit.ensures c.leaf_with.ensures.found c.leaf_with.ensures.holds in
-    let no_coarser = crossing.no_coarser in
-    let own : c.level-else-level-2.result ≡ level_of s.id = c.level-else-level-2.ensures.level in
-    let its : c.level-else-level.result ≡ level_of found.0 = c.level-else-level.ensures.level in
-    let below : c.level-else-level.result < c.level-else-level-2.result = c.if-level-2.true in
-    let level : level_of found.0 + 1 ≡ level_of s.id = omega arith in
-    let halves = both_halves m.case.now m.leaves.now m.atlas.now s.id found.0 s.cells.now found.1 s.block c.of-whole.result c.args.face site crossing.lies level c.of-whole.ensures in
-    halves.1
-
-pub lay_coarser-requires-clause-sides : goal.lay_coarser-requires-clause-sides
-lay_coarser-requires-clause-sides c =
+pub lay_coarser-requires : goal.lay_coarser-requires
+lay_coarser-requires c =
     let m = c.args.self in
     let s = c.args.site.now in
     let site = c.requires.site in
@@ -108,9 +62,7 @@ returns-then-level-2-clause-face c =
     let its : c.level-else-level.result ≡ level_of found.0 = c.level-else-level.ensures.level in
     let below : c.level-else-level.result < c.level-else-level-2.result = c.if-level-2.true in
     let level : level_of found.0 + 1 ≡ level_of s.id = omega arith in
-    let halves = both_halves m.case.now m.leaves.now m.atlas.now s.id found.0 s.cells.now found.1 s.block c.of-whole.result c.args.face site crossing.lies level c.of-whole.ensures in
-    coarser_holds m.case.now m.leaves.now m.atlas.now s.id found.0 s.cells.now found.1 s.block c.of-whole.result c.args.face c.args.shell.now _ site crossing.lies level
-    c.of-whole.ensures halves.0 halves.1 c.requires.side c.lay_coarser.ensures.wall
+    coarser_holds m.case.now m.leaves.now m.atlas.now s.id found.0 s.cells.now found.1 s.block c.args.face c.args.shell.now _ site crossing.lies level c.requires.side c.lay_coarser.ensures.wall
 
 pub returns-then-level-2-clause-others : goal.returns-then-level-2-clause-others
 returns-then-level-2-clause-others c = keeps c.args.shell.now _ c.args.face _ c.lay_coarser.ensures.wall

@@ -14,6 +14,7 @@ across_quarter-unit-requires c =
     let s = c.args.site.now in
     let site = c.requires.site in
     record {
+      domain = site.charted.valid.sized.shape;
       narrow = narrow c.args.self.case.now c.args.self.leaves.now c.args.self.atlas.now s.id s.cells.now s.block site;
       some = (placed c.args.self.case.now c.args.self.leaves.now c.args.self.atlas.now s.id s.cells.now s.block site).some;
       half_a = omega arith;
