@@ -16,6 +16,10 @@ pub record BlockValue : Type 0 where
   pub id : BlockId
   pub cells : Grid
 
+-- the leaf that a block is
+abbrev pub leaf_of : BlockValue → Leaf
+leaf_of b = (b.id, b.cells)
+
 -- the model's map at a point
 abbrev pub map_at : Case → Point → List Leaf
 map_at c p = model_at c p.time p.regridded

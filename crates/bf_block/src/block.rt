@@ -5,7 +5,7 @@ ghost use Rattle.bf_case.specs.Beside.{HoldSamples};
 ghost use Rattle.bf_block.specs.Block.{IsModels, initial_block, kept_block, stepped_block, map_at, after_regrid};
 
 use crate::{Kept, Memory, Opening, Point, Setup};
-use bf_case::filled_root;
+use bf_case::{AsLeaf, filled_root};
 use bf_cells::{Cells, Shell};
 use bf_id::Id;
 use std::alloc::Global;
@@ -30,6 +30,20 @@ impl Model for Block {
     ghost view = { block_in };
 
     ghost invariant = { λ b. IsModels (block_in b) };
+}
+
+impl AsLeaf for Block {
+    ghost use Rattle.bf_block.specs.Block.{leaf_of};
+
+    ghost leaf = { leaf_of };
+
+    fn id(&self) -> Id {
+        self.id
+    }
+
+    fn cells(&self) -> &Cells {
+        &self.cells
+    }
 }
 
 impl Block {

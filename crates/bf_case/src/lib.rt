@@ -8,6 +8,7 @@
 mod case;
 mod filling;
 pub mod laws;
+mod leaf;
 mod map;
 mod neighbours;
 pub mod rows;
@@ -17,6 +18,7 @@ mod validity;
 pub use bf_items::Items;
 pub use case::{Case, Fill};
 pub use filling::{fill_root, filled_root};
+pub use leaf::AsLeaf;
 pub use map::Map;
 pub use neighbours::{RootCells, surround};
 pub use target::Target;

@@ -6,7 +6,7 @@ use Rattle.std.proofs.lemmas.Simd.{map-map}
 use Rattle.bf_case.specs.MapText.{map_text}
 use Rattle.bf_case.specs.Model.{model}
 use Rattle.bf_case.specs.declared.case.Case.{Case}
-use Rattle.bf_block.specs.Block.{BlockValue}
+use Rattle.bf_block.specs.Block.{BlockValue, leaf_of}
 use Rattle.bf_block.specs.Runs.{CanRun}
 use Rattle.bf_block.specs.declared.setup.Setup.{Setup}
 use Rattle.bf_block.specs.Setup.{case_of, every_setup_runs}
@@ -14,7 +14,6 @@ use Rattle.bf_core.specs.declared.event.Event.{Event}
 use Rattle.bf_core.specs.declared.outcome.Outcome.TheVariants.{Finished}
 use Rattle.bf_world.specs.Runs.{run_after, is_journal}
 use Rattle.bf_world.specs.Worlds.{IsView, core_after}
-use Rattle.bf_forest.specs.Gathered.{leaf_of}
 use Rattle.bf_forest.specs.Leaves.{AreLeaves}
 use Rattle.bf_forest.specs.Meanings.{forest}
 use Rattle.bf_driven.specs.Parcels.{blocks_of}

@@ -7,14 +7,14 @@ ghost use Rattle.bf_edge.specs.Faults.{Rose};
 ghost use Rattle.bf_edge.specs.Sheet.{Prints};
 ghost use Rattle.bf_edge.specs.Sink.{appended, AppendsPrefix};
 
-use crate::leaves::block_leaves;
 use crate::status::{Ended, Status};
-use bf_case::Map;
+use bf_case::{AsLeaf, Map};
 use bf_core::Outcome;
 use bf_driven::laws::{a_finished_run_has_the_leaves, leaves_in_order_are_the_map};
+use bf_driven::leaves;
 use bf_edge::{Failed, Sheet, Sink, finish, print, print_number};
 use bf_forest::Forest;
-use bf_plain::{Printed, write_map};
+use bf_map_text::write_map;
 use bf_world::World;
 use std::alloc::Global;
 
@@ -90,7 +90,7 @@ fn tell_line<W: Sink>(sink: &mut W, status: Status) -> Status
 }
 
 /// Tells a map by its text.
-fn tell_map<W: Sink, L: Printed>(sink: &mut W, leaves: &[L]) -> Status
+fn tell_map<W: Sink, L: AsLeaf>(sink: &mut W, leaves: &[L]) -> Status
     ensures told { Tells Status.Ok (map_text (map L.leaf leaves.now)) result (W.written sink.old) (W.written sink.new) (W.faults sink.old) (W.faults sink.new) }
     ensures never_falls { W.faults sink.old ≤ W.faults sink.new }
 {
@@ -108,7 +108,7 @@ fn tell_world<W: Sink>(alloc: Global, sink: &mut W, world: &World<Forest>) -> St
     a_finished_run_has_the_leaves();
     leaves_in_order_are_the_map();
     if let Some(Outcome::Finished) = world.outcome() {
-        if let Ok(found) = block_leaves(alloc, world.parcels()) {
+        if let Ok(found) = leaves(alloc, world.parcels()) {
             return tell_map(sink, found.as_slice());
         }
     }

@@ -8,7 +8,6 @@
 mod answer;
 mod command;
 mod input;
-mod leaves;
 mod status;
 mod top;
 

@@ -21,11 +21,10 @@ use Rattle.bf_case.specs.Map.{Leaf, cells_at}
 use Rattle.bf_case.specs.Model.{model}
 use Rattle.bf_case.proofs.RootModel.{roots_of_model, cells_of_root}
 use Rattle.bf_case.proofs.RootSteps.{roots_are}
-use Rattle.bf_block.specs.Block.{BlockValue}
+use Rattle.bf_block.specs.Block.{BlockValue, leaf_of}
 use Rattle.bf_block.specs.Runs.{never_refines, CanRun}
 use Rattle.bf_parts.specs.Bools.{iff_same}
 use Rattle.bf_parts.specs.Counts.{once, count_cons}
-use Rattle.bf_forest.specs.Gathered.{leaf_of}
 use Rattle.bf_forest.specs.Leaves.{times_among, AreLeaves}
 use Rattle.bf_forest.specs.StepLaws.{root_of_leaf}
 

@@ -8,11 +8,7 @@ use Rattle.bf_cells.specs.Grid.{Grid, grid_with}
 use Rattle.bf_case.specs.declared.case.Case.{Case}
 use Rattle.bf_case.specs.Map.{Leaf, cells_at}
 use Rattle.bf_case.specs.Stencil.{stencil}
-use Rattle.bf_block.specs.Block.{BlockValue, before_regrid}
-
--- the leaf that a block is
-abbrev pub leaf_of : BlockValue → Leaf
-leaf_of b = (b.id, b.cells)
+use Rattle.bf_block.specs.Block.{BlockValue, before_regrid, leaf_of}
 
 -- the cells found, or others where none were
 abbrev pub cells_or : Option Grid → Grid → Grid

@@ -19,8 +19,8 @@ use Rattle.bf_case.proofs.RootSteps.{roots_are}
 use Rattle.bf_case.specs.Around.{grid_at, nothing}
 use Rattle.bf_block.specs.declared.point.Point.{Point}
 use Rattle.bf_block.specs.Runs.{never_refines, CanRun}
-use Rattle.bf_block.specs.Block.{BlockValue, map_at}
-use Rattle.bf_forest.specs.Gathered.{leaf_of, cells_or, root_among, gathered}
+use Rattle.bf_block.specs.Block.{BlockValue, leaf_of, map_at}
+use Rattle.bf_forest.specs.Gathered.{cells_or, root_among, gathered}
 use Rattle.bf_forest.specs.ModelBlocks.{IsBlockAt}
 
 pub some_grid : (g h : Grid) → Some g ≡ Some h → g ≡ h

@@ -12,6 +12,5 @@ pub mod TargetLemmas
 pub mod BlankLeaves
 pub mod SpotLemmas
 pub mod SiteLemmas
-pub mod LeafTexts
 pub mod StepLemmas
 pub mod RunLemmas

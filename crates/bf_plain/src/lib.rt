@@ -18,10 +18,9 @@ mod targets;
 #[cfg(test)]
 mod tests;
 mod walls;
-mod writer;
 
 pub use bf_edge::Memory;
+pub use bf_map_text::{write_end, write_leaf};
 pub use regridding::regridded;
 pub use run::one_run;
 pub use step::stepped;
-pub use writer::{Printed, write_end, write_leaf, write_map};

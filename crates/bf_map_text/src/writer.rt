@@ -1,4 +1,3 @@
-//! Writing leaves and maps as text.
 ghost use Rattle.std.specs.Prelude.{◌≡◌, [], ◌∷◌, ◌*◌, ◌≤◌, ◌++◌, length, codes, decimal, flat_map, map, OnOk, OnErr};
 ghost use Rattle.bf_edge.specs.Faults.{Rose};
 ghost use Rattle.bf_edge.specs.Sheet.{Prints};
@@ -7,37 +6,10 @@ ghost use Rattle.bf_id.specs.IdText.{text_of};
 ghost use Rattle.bf_case.specs.CaseText.{spaced};
 ghost use Rattle.bf_case.specs.MapText.{row_text, grid_text, leaf_text, map_text};
 
+use bf_case::AsLeaf;
 use bf_cells::Cells;
 use bf_edge::{Failed, Sheet, Sink, finish, print, print_number, print_numbers, write_all};
 use bf_id::Id;
-
-/// What is written as a leaf.
-pub trait Printed {
-    ghost use Rattle.std.specs.Prelude.{◌≡◌};
-    ghost use Rattle.bf_case.specs.Map.{Leaf};
-
-    ghost leaf: { Self → Leaf };
-
-    /// Its id.
-    fn id(&self) -> Id
-        ensures { result ≡ (leaf self.now).0 };
-
-    /// Its cells.
-    fn cells(&self) -> &Cells
-        ensures { result.now ≡ (leaf self.now).1 };
-}
-
-impl Printed for (Id, Cells) {
-    ghost leaf = { λ leaf. leaf };
-
-    fn id(&self) -> Id {
-        self.0
-    }
-
-    fn cells(&self) -> &Cells {
-        &self.1
-    }
-}
 
 // A number, each of the rest after a blank, and the line feed.
 fn print_line<W: Sink>(sink: &mut W, sheet: &mut Sheet, first: u32, rest: &[u32])
@@ -101,24 +73,24 @@ fn print_leaf<W: Sink>(sink: &mut W, sheet: &mut Sheet, id: Id, cells: &Cells)
     print_grid(sink, sheet, cells);
 }
 
-// The same of whatever has a leaf.
-fn print_printed<W: Sink, L: Printed>(sink: &mut W, sheet: &mut Sheet, leaf: &L)
+// The same of whatever has an id and cells.
+fn print_as_leaf<W: Sink, L: AsLeaf>(sink: &mut W, sheet: &mut Sheet, leaf: &L)
     ensures { Prints W.written W.faults sink.old sink.new sheet.old sheet.new (leaf_text (L.leaf leaf.now)) }
 {
     print_leaf(sink, sheet, leaf.id(), leaf.cells());
 }
 
 // Every leaf in its order.
-fn print_leaves<W: Sink, L: Printed>(sink: &mut W, sheet: &mut Sheet, leaves: &[L])
+fn print_leaves<W: Sink, L: AsLeaf>(sink: &mut W, sheet: &mut Sheet, leaves: &[L])
     ensures { Prints W.written W.faults sink.old sink.new sheet.old sheet.new (flat_map leaf_text (map L.leaf leaves.now)) }
 {
     for leaf in leaves {
-        print_printed(sink, sheet, leaf);
+        print_as_leaf(sink, sheet, leaf);
     }
 }
 
 // Every leaf in its order, and the last line.
-fn print_map<W: Sink, L: Printed>(sink: &mut W, sheet: &mut Sheet, leaves: &[L])
+fn print_map<W: Sink, L: AsLeaf>(sink: &mut W, sheet: &mut Sheet, leaves: &[L])
     ensures { Prints W.written W.faults sink.old sink.new sheet.old sheet.new (map_text (map L.leaf leaves.now)) }
 {
     print_leaves(sink, sheet, leaves);
@@ -154,7 +126,7 @@ pub fn write_end<W: Sink>(sink: &mut W) -> Result<(), Failed>
 
 /// Writes every leaf in its order, as [`write_leaf`] does, and the last line, in as few calls of the sink as pages are
 /// filled.
-pub fn write_map<W: Sink, L: Printed>(sink: &mut W, leaves: &[L]) -> Result<(), Failed>
+pub fn write_map<W: Sink, L: AsLeaf>(sink: &mut W, leaves: &[L]) -> Result<(), Failed>
     ensures all { OnOk result (W.written sink.new ≡ appended (W.written sink.old) (map_text (map L.leaf leaves.now))) }
     ensures steady { OnOk result (W.faults sink.new ≡ W.faults sink.old) }
 

@@ -1,6 +1,6 @@
 use Rattle.bf_case.specs.MapText.{map_text}
 use Rattle.bf_edge.proofs.SheetLemmas.{prints_then}
-use Rattle.bf_plain.proofs.writer.print_map.Goals as goal
+use Rattle.bf_map_text.proofs.writer.print_map.Goals as goal
 
 pub returns : goal.returns
 unfolding map_text

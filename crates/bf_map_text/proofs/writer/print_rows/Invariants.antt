@@ -3,7 +3,7 @@ use Rattle.std.specs.Prelude.{slice_range}
 use Rattle.std.specs.List.{range_with_len}
 use Rattle.bf_case.specs.MapText.{row_text}
 use Rattle.bf_edge.specs.Sheet.{Prints}
-use Rattle.bf_plain.proofs.writer.print_rows.Given as goal
+use Rattle.bf_map_text.proofs.writer.print_rows.Given as goal
 
 abbrev pub invariant-loop-row : goal.invariant-loop-row
 invariant-loop-row g l =

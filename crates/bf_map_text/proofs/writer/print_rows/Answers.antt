@@ -4,8 +4,8 @@ use Rattle.std.specs.List.{range_with_len}
 use Rattle.std.proofs.lemmas.List.FromFn.{length-range_with_len}
 use Rattle.bf_case.specs.MapText.{row_text, grid_text}
 use Rattle.bf_edge.proofs.SheetLemmas.{prints_none, prints_item, prints_items}
-use Rattle.bf_plain.proofs.LeafTexts.{number_below, number_at}
-use Rattle.bf_plain.proofs.writer.print_rows.Goals as goal
+use Rattle.bf_map_text.proofs.LeafTexts.{number_below, number_at}
+use Rattle.bf_map_text.proofs.writer.print_rows.Goals as goal
 
 pub loop-row-init : goal.loop-row-init
 loop-row-init g c = prints_none g.W.Sink.written g.W.Sink.faults c.args.sink.now c.args.sheet.now

@@ -1,5 +1,5 @@
 use Rattle.bf_edge.proofs.SheetLemmas.{prints_whole}
-use Rattle.bf_plain.proofs.writer.write_map.Goals as goal
+use Rattle.bf_map_text.proofs.writer.write_map.Goals as goal
 
 pub returns : goal.returns
 returns g c =
