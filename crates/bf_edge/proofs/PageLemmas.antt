@@ -36,23 +36,6 @@ puts_none written waits = record {
   waiting = sym (append-nil waits);
 }
 
--- one text and then another
-pub puts_more : {old now new : Option (List ℕ)} {waited between waits first second : List ℕ}
-    → Puts old now waited between first → Puts now new between waits second → Puts old new waited waits (first ++ second)
-puts_more {old} {now} {new} {waited} {between} {waits} {first} {second} p q =
-    let text : List ℕ = waited ++ first in
-    let same : text ++ second ≡ waited ++ (first ++ second) = append_assoc waited first second in
-    let within : q.count ≤ length (drop p.count text ++ second) = subst (λ (l : List ℕ). q.count ≤ length (l ++ second)) p.waiting q.within in
-    let more : new ≡ appended now (take q.count (drop p.count text ++ second)) = subst (λ (l : List ℕ). new ≡ appended now (take q.count (l ++ second))) p.waiting q.written in
-    record {
-      count = p.count + q.count;
-      within = subst (λ (l : List ℕ). p.count + q.count ≤ length l) same (add_within text second p.count q.count p.within within);
-      written = subst (λ (l : List ℕ). new ≡ appended old (take (p.count + q.count) l)) same
-          (written_twice old now new text second p.count q.count p.within p.written more);
-      waiting = q.waiting ∙ (ap (λ l. drop q.count (l ++ second)) p.waiting
-          ∙ (sym (drop-add_append text second p.count q.count p.within) ∙ ap (drop (p.count + q.count)) same));
-    }
-
 -- one text, and then a failure within another
 pub breaks_after : {old now new : Option (List ℕ)} {waited between first : List ℕ} (second : List ℕ)
     → Puts old now waited between first → AppendsPrefix now new (between ++ second) → AppendsPrefix old new (waited ++ (first ++ second))
@@ -66,6 +49,20 @@ breaks_after {old} {now} {new} {waited} {between} {first} second p q =
       within = subst (λ (l : List ℕ). p.count + q.count ≤ length l) same (add_within text second p.count q.count p.within within);
       written = subst (λ (l : List ℕ). new ≡ appended old (take (p.count + q.count) l)) same
           (written_twice old now new text second p.count q.count p.within p.written more);
+    }
+
+-- one text and then another
+pub puts_more : {old now new : Option (List ℕ)} {waited between waits first second : List ℕ}
+    → Puts old now waited between first → Puts now new between waits second → Puts old new waited waits (first ++ second)
+unfolding breaks_after
+puts_more {old} {now} {new} {waited} {between} {waits} {first} {second} p q =
+    let front = breaks_after second p (record { count = q.count; within = q.within; written = q.written }) in
+    record {
+      count = p.count + q.count;
+      within = front.within;
+      written = front.written;
+      waiting = q.waiting ∙ (ap (λ l. drop q.count (l ++ second)) p.waiting
+          ∙ (sym (drop-add_append (waited ++ first) second p.count q.count p.within) ∙ ap (drop (p.count + q.count)) (append_assoc waited first second)));
     }
 
 -- a failure within a text, of which more was to come
@@ -89,16 +86,6 @@ puts_after_flush {old} {new} {waited} {between} {waits} {bytes} all empty is = r
   within = omega (arith, length-append waited bytes);
   written = all ∙ ap (appended old) (sym (take_at waited bytes (length waited) refl));
   waiting = is ∙ (ap (λ l. l ++ bytes) empty ∙ sym (drop_at waited bytes (length waited) refl));
-}
-
--- all is written, and then a text too
-pub puts_past_flush : {old now new : Option (List ℕ)} {waited waits bytes : List ℕ}
-    → now ≡ appended old waited → waits ≡ [] → new ≡ appended now bytes → Puts old new waited waits bytes
-puts_past_flush {old} {now} {new} {waited} {waits} {bytes} all empty more = record {
-  count = length (waited ++ bytes);
-  within = omega arith;
-  written = more ∙ (ap (λ w. appended w bytes) all ∙ (appended-append old waited bytes ∙ ap (appended old) (sym (take_all _ (waited ++ bytes) (omega arith)))));
-  waiting = empty ∙ sym (drop_all _ (waited ++ bytes) (omega arith));
 }
 
 -- all is written, and then a failure comes within a text

@@ -1,6 +1,5 @@
 -- Taking bytes from a source piece by piece.
 use Rattle.std.proofs.Common.{◌≡◌, ℕ, ◌+◌, ◌≤◌, List, [], ◌++◌, length, take, drop, Option, None, Some, refl, sym, ◌∙◌, ap, subst, arith, length-append}
-use Rattle.std.specs.Prelude.{is_some}
 use Rattle.std.proofs.Math.Seq.{take-add}
 use Rattle.std.proofs.Math.ListN.{drop_of_length-le}
 use Rattle.std.proofs.lemmas.List.{drop-drop, length-drop, length-take-le, take_all}
@@ -76,8 +75,3 @@ Took-passes before now after got room most took passed within = record {
   within = omega arith;
   rest = passed.rest ∙ (ap (λ left. left_after left passed.count) took.rest ∙ left_after-add before (length got) passed.count);
 }
-
--- told stays told, and untold stays untold
-pub is_some-left_after : (left : Option (List ℕ)) (n : ℕ) → is_some (left_after left n) ≡ is_some left
-is_some-left_after None n = refl
-is_some-left_after (Some all) n = refl

@@ -17,6 +17,7 @@ use Rattle.bf_text.specs.Faults.{is_missing, cause_of, has_word_cause, has_numbe
 use Rattle.bf_text.specs.Heads.{IsSmall}
 use Rattle.bf_text.specs.Drafts.{came_below, known_in, head_with, next_after, outline_with, blank_outline}
 use Rattle.bf_text.proofs.ClearLemmas.{clear_at, clear_parts}
+use Rattle.bf_text.proofs.DeathLemmas.{none_dies}
 use Rattle.bf_text.proofs.OutlineLemmas.{Agrees, heading_next, came_more, head_more, deaths_more, length_deaths}
 
 -- ---- bounds
@@ -108,11 +109,6 @@ agrees_more o before e a none =
     }
 
 -- ---- no line
-
-none_dies : (n rank : ℕ) → get_or (replicate n (let none : Option ℕ = None in none)) rank None ≡ None
-none_dies zero rank = refl
-none_dies (suc n) zero = refl
-none_dies (suc n) (suc rank) = none_dies n rank
 
 nothing_came : (f : Form) → (is_heading f && false) ≡ came_below 0 f
 nothing_came form.Forest = refl

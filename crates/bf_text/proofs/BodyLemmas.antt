@@ -23,7 +23,7 @@ use Rattle.bf_text.proofs.AgreeLemmas.{agrees_blank}
 use Rattle.bf_text.proofs.ReadLemmas.{at_end}
 use Rattle.bf_text.proofs.CanonLemmas.{IsSound, Reaches, step}
 use Rattle.bf_text.proofs.LawLemmas.{whole_outline, head_way}
-use Rattle.bf_text.proofs.DeathLemmas.{Rising, rising_from, placed, blank_clear, deaths_again}
+use Rattle.bf_text.proofs.DeathLemmas.{Rising, rising_from, placed, none_dies, deaths_again}
 
 -- some lines further on
 abbrev On : ℕ → Result Case Refusal → Case → List (Option ℕ) → List Fill → List ℕ → List ℕ → Type 0
@@ -249,7 +249,7 @@ lines_give c v =
     record { before = []; agrees = agrees_blank; fills_are = refl; order_is = refl; left = refl } in
     let head = head_way c last start (flat_map fill_text c.fills ++ (flat_map death_text c.dies ++ (order_text c.order ++ line (codes "end") []))) v begun in
     let fills = fills_way c last start (replicate 16 None) (flat_map death_text c.dies ++ (order_text c.order ++ line (codes "end") [])) c.fills [] v.sized v.fills (14, head) in
-    let deaths = deaths_way c last start c.fills (order_text c.order ++ line (codes "end") []) 0 c.dies (replicate 16 None) few (λ k h. blank_clear 16 k) up fills in
+    let deaths = deaths_way c last start c.fills (order_text c.order ++ line (codes "end") []) 0 c.dies (replicate 16 None) few (λ k h. none_dies 16 k) up fills in
     let order = order_way c last start (placed (replicate 16 None) c.dies) c.fills (line (codes "end") []) c.order few v.order deaths in
     let end = end_way c last start (placed (replicate 16 None) c.dies) c.fills c.order order in
     finished c last start (placed (replicate 16 None) c.dies) (c.fills ++ []) (c.order ++ []) end.0 end.1 (append-nil c.fills) (append-nil c.order)

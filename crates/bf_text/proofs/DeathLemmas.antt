@@ -90,12 +90,13 @@ list_again ranks (suc n) a deaths (d ∷ ds) few all sixteen clear up =
           ∙ list_again ranks n (a + 1) deaths (d ∷ ds) few (omega arith) sixteen (λ k h. clear k (omega arith)) (later, up.1)
     ]
 
-pub blank_clear : (n k : ℕ) → get_or (replicate n (let none : Option ℕ = None in none)) k None ≡ None
-blank_clear zero k = refl
-blank_clear (suc n) zero = refl
-blank_clear (suc n) (suc k) = blank_clear n k
+-- before any line no rank dies
+pub none_dies : (n k : ℕ) → get_or (replicate n (let none : Option ℕ = None in none)) k None ≡ None
+none_dies zero k = refl
+none_dies (suc n) zero = refl
+none_dies (suc n) (suc k) = none_dies n k
 
 pub deaths_again : (ranks : ℕ) (ds : List (ℕ × ℕ)) → ranks ≤ 16 → Rising ranks 0 ds
     → flat_map (λ rank. listed rank (get_or (placed (replicate 16 None) ds) rank None)) (range_with_len 0 16) ≡ ds
 unfolding listing
-deaths_again ranks ds few up = list_again ranks 16 0 (replicate 16 None) ds few (omega arith) refl (λ k h. blank_clear 16 k) up
+deaths_again ranks ds few up = list_again ranks 16 0 (replicate 16 None) ds few (omega arith) refl (λ k h. none_dies 16 k) up

@@ -2,7 +2,7 @@
 use Rattle.std.proofs.Common.{◌≡◌, ℕ, ◌<◌, length, List, [], ◌∷◌, ◌++◌, take, drop, ◌-◌, refl, Ok, Err}
 use Rattle.std.specs.Prelude.{codes, flat_map, slice_set}
 use Rattle.bf_case.specs.declared.case.Case.{Case}
-use Rattle.bf_case.specs.declared.case.Fill.{Fill}
+use Rattle.bf_case.specs.Rows.{smallest, box}
 use Rattle.bf_text.specs.declared.code.Code.TheVariants as code
 use Rattle.std.proofs.lemmas.Bool.{lt-ltb}
 use Rattle.bf_text.specs.Reading.{input_limit, reading_after, refusal, reading}
@@ -26,32 +26,10 @@ changed number line = text (slice_set base (number - 1) line)
 abbrev ending : List (List ℕ) → List ℕ
 ending lines = text (take 13 base ++ lines)
 
-abbrev box : List ℕ → List ℕ → ℕ → Fill
-box low high value = record { low = low; high = high; value = value }
-
-abbrev base_case : Case
-base_case = record {
-  roots = record { nx = 1; ny = 1; nz = 1 };
-  side = 2;
-  levels = 0;
-  ranks = 1;
-  steps = 0;
-  snapshot = 1;
-  regrid = 0;
-  refine = 4294967295;
-  coarsen = 0;
-  flow = 0;
-  turns = 0;
-  shift = 0;
-  fills = [];
-  dies = [];
-  order = [];
-}
-
 -- ---- rows
 
 -- the base is a case
-pub base_is_read : reading (text base) ≡ Ok (base_case)
+pub base_is_read : reading (text base) ≡ Ok (smallest)
 unfolding reading_after
 base_is_read = refl
 
@@ -186,22 +164,22 @@ unfolding reading_after
 a_return_before_a_comment = refl
 
 -- a comment may have any byte
-pub a_comment_of_any_bytes : reading (changed 6 (codes "steps 0 #" ++ (128 ∷ 255 ∷ 0 ∷ []))) ≡ Ok (base_case)
+pub a_comment_of_any_bytes : reading (changed 6 (codes "steps 0 #" ++ (128 ∷ 255 ∷ 0 ∷ []))) ≡ Ok (smallest)
 unfolding reading_after
 a_comment_of_any_bytes = refl
 
 -- the last line feed may be left out
-pub no_last_feed : reading (text (take 13 base) ++ codes "end") ≡ Ok (base_case)
+pub no_last_feed : reading (text (take 13 base) ++ codes "end") ≡ Ok (smallest)
 unfolding reading_after
 no_last_feed = refl
 
 -- carriage returns, blank lines, tabs, comments and zeros that lead
-pub returns_blanks_and_comments : reading (text ((codes "# first" ++ 13 ∷ []) ∷ [] ∷ (codes "forest 1" ++ 13 ∷ []) ∷ (9 ∷ 32 ∷ 13 ∷ []) ∷ codes "roots 01  1\t1" ∷ take 3 (drop 2 base) ++ ((codes "steps 00000000000000000000 # none" ∷ []) ++ drop 6 base))) ≡ Ok (base_case)
+pub returns_blanks_and_comments : reading (text ((codes "# first" ++ 13 ∷ []) ∷ [] ∷ (codes "forest 1" ++ 13 ∷ []) ∷ (9 ∷ 32 ∷ 13 ∷ []) ∷ codes "roots 01  1\t1" ∷ take 3 (drop 2 base) ++ ((codes "steps 00000000000000000000 # none" ∷ []) ++ drop 6 base))) ≡ Ok (smallest)
 unfolding reading_after
 returns_blanks_and_comments = refl
 
 -- deaths come by rank, orders one after the other, fills as they came
-pub deaths_by_rank : reading (text (take 4 base ++ (codes "ranks 3" ∷ take 8 (drop 5 base)) ++ (codes "die 2 7" ∷ codes "order 1 0" ∷ codes "fill 0 0 0 1 1 1 8" ∷ codes "die 0 9" ∷ codes "order 2" ∷ codes "fill 1 0 0 1 0 0 5" ∷ codes "end" ∷ []))) ≡ Ok (record base_case { ranks = 3; fills = box (0 ∷ 0 ∷ 0 ∷ []) (1 ∷ 1 ∷ 1 ∷ []) 8 ∷ box (1 ∷ 0 ∷ 0 ∷ []) (1 ∷ 0 ∷ 0 ∷ []) 5 ∷ []; dies = (0, 9) ∷ (2, 7) ∷ []; order = 1 ∷ 0 ∷ 2 ∷ [] })
+pub deaths_by_rank : reading (text (take 4 base ++ (codes "ranks 3" ∷ take 8 (drop 5 base)) ++ (codes "die 2 7" ∷ codes "order 1 0" ∷ codes "fill 0 0 0 1 1 1 8" ∷ codes "die 0 9" ∷ codes "order 2" ∷ codes "fill 1 0 0 1 0 0 5" ∷ codes "end" ∷ []))) ≡ Ok (record smallest { ranks = 3; fills = box (0 ∷ 0 ∷ 0 ∷ []) (1 ∷ 1 ∷ 1 ∷ []) 8 ∷ box (1 ∷ 0 ∷ 0 ∷ []) (1 ∷ 0 ∷ 0 ∷ []) 5 ∷ []; dies = (0, 9) ∷ (2, 7) ∷ []; order = 1 ∷ 0 ∷ 2 ∷ [] })
 unfolding reading_after
 deaths_by_rank = refl
 

@@ -4,7 +4,7 @@ use Rattle.std.specs.Prelude.{decimal}
 use Rattle.std.specs.Char.{is_ascii_digit}
 use Rattle.std.specs.List.{list_all, filter, slice_split, onto_first}
 use Rattle.std.specs.Str.Parse.{digits_value}
-use Rattle.std.proofs.lemmas.Bool.{and_parts, and_from, leb-true, ltb-true, ne_eqb, le-leb}
+use Rattle.std.proofs.lemmas.Bool.{and_parts, and_from, or_from, leb-true, ltb-true, ne_eqb, le-leb}
 use Rattle.std.proofs.lemmas.Fmt.{decimal_by_steps, decimal_is_IsNumeral, length-decimal-le, decimal_nonempty}
 use Rattle.std.proofs.lemmas.List.{append-nil}
 use Rattle.std.proofs.lemmas.List.Splits.{slice_split-cons_yes, slice_split-cons_no}
@@ -56,9 +56,6 @@ all_weaker p q weaker (x ∷ xs) all =
 
 -- ---- bytes apart
 
-or_false : {x y : Bool} → x ≡ false → y ≡ false → (x || y) ≡ false
-or_false {x} {y} a b = rw (a, b) refl
-
 or_true : (x : Bool) → (x || true) ≡ true
 or_true true = refl
 or_true false = refl
@@ -70,7 +67,7 @@ pub spaced_cases : (b : ℕ) → is_spaced b ≡ true → (b ≢ 10) × ((b ≢ 
 spaced_cases b e = search (rules, tests)
 
 letter_not_blank : (b : ℕ) → is_letter b ≡ true → is_blank b ≡ false
-letter_not_blank b e = let l = letter_bounds b e in or_false (ne_eqb b 32 (λ s. omega (arith, l.low))) (ne_eqb b 9 (λ s. omega (arith, l.low)))
+letter_not_blank b e = let l = letter_bounds b e in or_from _ _ (ne_eqb b 32 (λ s. omega (arith, l.low))) (ne_eqb b 9 (λ s. omega (arith, l.low)))
 
 digit_is_letter : (b : ℕ) → is_ascii_digit b ≡ true → is_letter b ≡ true
 digit_is_letter b e = search (rules, tests)
