@@ -12,13 +12,16 @@ use Rattle.bf_block.specs.declared.setup.Setup.{Setup}
 use Rattle.bf_block.specs.Setup.{case_of, every_setup_runs}
 use Rattle.bf_core.specs.declared.event.Event.{Event}
 use Rattle.bf_core.specs.declared.outcome.Outcome.TheVariants.{Finished}
+use Rattle.bf_core.specs.States.{is_finished}
 use Rattle.bf_world.specs.Runs.{run_after, is_journal}
 use Rattle.bf_world.specs.Worlds.{IsView, core_after}
+use Rattle.bf_drive.specs.Drives.{IsDriven}
+use Rattle.bf_forest.specs.Goods.{IsGood}
 use Rattle.bf_forest.specs.Leaves.{AreLeaves}
 use Rattle.bf_forest.specs.Meanings.{forest}
 use Rattle.bf_driven.specs.Parcels.{blocks_of}
 use Rattle.bf_cli.specs.Answers.{model_text}
-use Rattle.bf_cli.specs.Driven.{ForestWorld, outcome_of}
+use Rattle.bf_cli.specs.Driven.{ForestWorld, HasRun, outcome_of}
 
 -- what is known of every finished run, and of its leaves in order
 abbrev pub HasLeaves : Type 0
@@ -41,3 +44,9 @@ finished_text block_of world leaves has order is finished same rising =
     subst (λ l. AreLeaves (model c c.steps) (blocks_of l)) (sym is.parcels) (has world.setup world.journal is.legal finished) in
     ap map_text (sym (map-map leaf_of block_of leaves)
     ∙ order c c.steps (blocks_of world.parcels) (map block_of leaves) (every_setup_runs world.setup) its same rising)
+
+-- the ranks have run the case of their world
+pub has_run : (c : Case) (w : ForestWorld) → case_of w.setup ≡ c → IsTrue (is_finished (core_after forest w.setup w.journal))
+    → IsDriven forest IsGood w.setup c.order w.journal → HasRun w
+has_run c w is complete driven =
+    record { complete = complete; driven = subst (λ (k : Case). IsDriven forest IsGood w.setup k.order w.journal) (sym is) driven }

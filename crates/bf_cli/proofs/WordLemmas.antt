@@ -1,12 +1,10 @@
 -- The words of the command line.
 use Rattle.std.proofs.Common.{◌≡◌, ℕ, List, [], ◌∷◌, Bool, eqb, length, map, get_or, ap, arith}
-use Rattle.std.specs.Prelude.{◌↔◌, IsTrue, codes}
+use Rattle.std.specs.Prelude.{◌↔◌, IsTrue}
 use Rattle.std.specs.Borrow.{Bor}
 use lib.Pointwise.{pointwise}
 use Rattle.std.proofs.lemmas.Slice.Eq.{slice_eq-Decides}
 use Rattle.std.proofs.lemmas.Bool.Decides.{Decides-eqb}
-use Rattle.bf_cli.specs.declared.command.Command.TheVariants as commands
-use Rattle.bf_cli.specs.Commands.{IsUsage}
 
 -- the one word of a list is a given one
 pub one_word : (words : List (Bor (List ℕ))) (d : Bor (List ℕ)) (word : List ℕ) (b : Bool) → length words ≡ 1
@@ -17,8 +15,3 @@ one_word (w ∷ v ∷ words) d word b e is = absurd (omega (arith, e))
 one_word (w ∷ []) d word b e is =
     let same = slice_eq-Decides Decides-eqb w.now word b is in
     (λ yes_is. ap (λ x. x ∷ []) (same.0 yes_is), λ words. same.1 (let equal : w.now ≡ word = cc in equal))
-
--- words that are neither command's
-pub no_words : (words : List (List ℕ)) → (words ≡ codes "one" ∷ [] → ⊥) → (words ≡ codes "drive" ∷ [] → ⊥) → IsUsage words
-no_words words not_one not_drive commands.One is = not_one is
-no_words words not_one not_drive commands.Drive is = not_drive is

@@ -1,11 +1,9 @@
--- What the program answers, and why.
-use Rattle.std.specs.Prelude.{◌≡◌, ◌⊎◌, ℕ, ◌+◌, List, [], ◌++◌, Option, Some, None, codes, decimal, IfSome, Contains}
+-- What the program answers, why, and what is written of it.
+use Rattle.std.specs.Prelude.{◌≡◌, ◌⊎◌, ℕ, ◌<◌, ◌≤◌, List, [], ◌∷◌, ◌++◌, Option, Some, None, codes, decimal, IfSome, Contains}
 use Rattle.bf_edge.specs.Faults.{Rose}
 use Rattle.bf_edge.specs.Sink.{appended, AppendsPrefix}
-use Rattle.bf_edge.specs.Source.{left_after}
 use Rattle.bf_case.specs.declared.case.Case.{Case}
 use Rattle.bf_case.specs.Case.{IsValid}
-use Rattle.bf_text.specs.Reading.{input_limit}
 use Rattle.bf_case.specs.Model.{model}
 use Rattle.bf_case.specs.MapText.{map_text}
 use Rattle.bf_block.specs.Setup.{case_of}
@@ -14,13 +12,10 @@ use Rattle.bf_cli.specs.declared.command.Command.{Command}
 use Rattle.bf_cli.specs.declared.command.Command.TheVariants as commands
 use Rattle.bf_cli.specs.declared.status.Status.{Status}
 use Rattle.bf_cli.specs.declared.status.Status.TheVariants as status
-use Rattle.bf_cli.specs.Commands.{IsCommand, IsUsage}
+use Rattle.bf_cli.specs.Commands.{Words, IsCommand, IsUsage}
 use Rattle.bf_cli.specs.Inputs.{Accepts, Refuses}
-use Rattle.bf_cli.specs.Driven.{ForestWorld, HasRun, outcome_of}
-
--- the answer is one of these
-abbrev pub IsAmong : List Status → Status → Type 0
-IsAmong answers answer = Contains answers answer
+use Rattle.bf_cli.specs.Driven.{ForestWorld, IsWorldOf, outcome_of}
+use Rattle.bf_cli.specs.Ends.{SourceEnds, SinkEnds, IsUnread, IsRead}
 
 -- the number with which the program ends
 abbrev pub number_of : Status → ℕ
@@ -44,100 +39,78 @@ status_line status.WriteFault = []
 abbrev pub model_text : Case → List ℕ
 model_text c = map_text (model c c.steps)
 
--- the text is that of the map of some case
-abbrev pub IsModelText : List ℕ → Type 0
-IsModelText text = (c : Case) × IsValid c × (text ≡ model_text c)
+-- ---- why
 
--- the command runs a case of the bytes, and the text is that of its map after all steps
-abbrev pub PrintsModel : Command → List ℕ → List ℕ → Type 0
-PrintsModel command text bytes = (c : Case) × Accepts command bytes c × (text ≡ model_text c)
+-- the text is that of the map of a case, which the bytes spell where they are told; of ranks, that of the case that they have run to its end, and
+-- their world is handed out
+abbrev pub Prints : Command → Option (List ℕ) → List ℕ → Option ForestWorld → Type 0
+Prints commands.One left text world =
+    (c : Case) × IsValid c × IfSome left (λ bytes. Accepts commands.One bytes c) × (text ≡ model_text c) × (world ≡ None)
+Prints commands.Drive left text world =
+    (w : ForestWorld) × IsWorldOf left w × (outcome_of w ≡ Some Finished) × (text ≡ model_text (case_of w.setup)) × (world ≡ Some w)
 
--- the whole input was read
-abbrev pub WasRead : Status → Type 0
-WasRead status.Ok = Unit {0}
-WasRead (status.Refused line code) = Unit {0}
-WasRead s = ⊥
-
--- the world is that of the case of the bytes, where they are told, which the ranks have run
-pub record IsWorldOf (left : Option (List ℕ)) (world : ForestWorld) : Type 0 where
-  pub run : HasRun world
-  pub its : IfSome left (λ bytes. Accepts commands.Drive bytes (case_of world.setup))
-
--- what a command hands out: only the ranks' run has a world
+-- the world that may be handed out where memory was wanting: one that ranks have run
 abbrev pub HandsOut : Command → Option (List ℕ) → Option ForestWorld → Type 0
 HandsOut commands.One left world = world ≡ None
 HandsOut commands.Drive left world = IfSome world (IsWorldOf left)
 
--- whose map is printed, whether the source tells its bytes or not: that of some case; or of the case whose world is handed out, which has finished
-abbrev pub HasFinished : Command → Option ForestWorld → List ℕ → Type 0
-HasFinished commands.One world text = IsModelText text
-HasFinished commands.Drive world text =
-    (w : ForestWorld) × (world ≡ Some w) × (outcome_of w ≡ Some Finished) × (text ≡ model_text (case_of w.setup))
+-- why a command answers so to its source, with which text, and with which world
+abbrev pub IsAnswerOf : Command → SourceEnds → Status → List ℕ → Option ForestWorld → Type 0
+IsAnswerOf command source status.Ok text world = IsRead source × Prints command source.left text world
+IsAnswerOf command source (status.Refused line code) text world =
+    IsRead source × IfSome source.left (λ bytes. Refuses command bytes line code) × (text ≡ status_line (status.Refused line code)) × (world ≡ None)
+IsAnswerOf command source status.Memory text world =
+    (source.faults_then ≡ source.faults) × HandsOut command source.left world × (text ≡ status_line status.Memory)
+IsAnswerOf command source status.ReadFault text world =
+    Rose source.faults source.faults_then × (text ≡ status_line status.ReadFault) × (world ≡ None)
+IsAnswerOf command source status.Usage text world = ⊥
+IsAnswerOf command source status.WriteFault text world = ⊥
 
--- why this answer of a command may come, for the bytes of the source where they are told, for its count of faults before and after, and
--- for the world that is handed out; and the text that goes with it
-abbrev pub IsAnswerOf : Command → Option (List ℕ) → ℕ → ℕ → Option ForestWorld → Status → List ℕ → Type 0
-IsAnswerOf command left before after world status.Ok text =
-    IfSome left (PrintsModel command text) × (after ≡ before) × HandsOut command left world × HasFinished command world text
-IsAnswerOf command left before after world (status.Refused line code) text =
-    IfSome left (λ bytes. Refuses command bytes line code) × (text ≡ status_line (status.Refused line code)) × (after ≡ before) × (world ≡ None)
-IsAnswerOf command left before after world status.Memory text = (text ≡ status_line status.Memory) × (after ≡ before) × HandsOut command left world
-IsAnswerOf command left before after world status.ReadFault text = (text ≡ status_line status.ReadFault) × Rose before after × (world ≡ None)
-IsAnswerOf command left before after world status.Usage text = ⊥
-IsAnswerOf command left before after world status.WriteFault text = ⊥
+-- the same for any words: those of no command have an answer of their own, for which nothing is read
+pub data IsAnswer (words : Words) (source : SourceEnds) : Status → List ℕ → Option ForestWorld → Type 0 where
+  no_command : IsUsage words → IsUnread source → IsAnswer words source status.Usage (status_line status.Usage) None
+  of_command : {meant : Status} {text : List ℕ} {world : Option ForestWorld} (command : Command) → IsCommand words command
+      → IsAnswerOf command source meant text world → IsAnswer words source meant text world
 
--- the same for any words
-pub data IsAnswer (words : List (List ℕ)) (left : Option (List ℕ)) (before after : ℕ) (world : Option ForestWorld) : Status → List ℕ → Type 0 where
-  no_command : IsUsage words → after ≡ before → world ≡ None → IsAnswer words left before after world status.Usage (status_line status.Usage)
-  of_command : {meant : Status} {text : List ℕ} (command : Command) → IsCommand words command → IsAnswerOf command left before after world meant text
-      → IsAnswer words left before after world meant text
+-- ---- what is written
 
--- the answer that was meant was written whole, with no fault; or a fault came in writing it, and the front of its text is written
-abbrev pub Tells : Status → List ℕ → Status → Option (List ℕ) → Option (List ℕ) → ℕ → ℕ → Type 0
-Tells meant text answer old new before after =
-    ((answer ≡ meant) × (new ≡ appended old text) × (after ≡ before))
-    ⊎ ((answer ≡ status.WriteFault) × AppendsPrefix old new text × Rose before after)
+-- the answer that was meant is given and its text was written whole, with no fault; or a fault came in writing it, and a front of its text is written
+abbrev pub Tells : Status → List ℕ → Status → SinkEnds → Type 0
+Tells meant text answer sink =
+    ((answer ≡ meant) × (sink.written_then ≡ appended sink.written text) × (sink.faults_then ≡ sink.faults))
+    ⊎ ((answer ≡ status.WriteFault) × AppendsPrefix sink.written sink.written_then text × Rose sink.faults sink.faults_then × (sink.faults ≤ sink.faults_then))
 
--- what a call has to its source: the bytes left before and after, where they are told, and the count of faults before and after
-pub record SourceEnds : Type 0 where
-  pub left : Option (List ℕ)
-  pub left_then : Option (List ℕ)
-  pub faults : ℕ
-  pub faults_then : ℕ
-
--- what it has to its sink: the bytes written before and after, where they are told, and the count of faults before and after
-pub record SinkEnds : Type 0 where
-  pub written : Option (List ℕ)
-  pub written_then : Option (List ℕ)
-  pub faults : ℕ
-  pub faults_then : ℕ
-
--- a call means an answer that has its cause, and tells it: also where the sink fails, what is written is the front of such an answer,
--- and the input was read whole where that answer needs it
-pub record Answers (words : List (List ℕ)) (source : SourceEnds) (sink : SinkEnds) (world : Option ForestWorld) (answer : Status) : Type 0 where
+-- a call means an answer that has its cause, and tells it
+pub record Answers (words : Words) (source : SourceEnds) (sink : SinkEnds) (world : Option ForestWorld) (answer : Status) : Type 0 where
   pub meant : Status
   pub text : List ℕ
-  pub cause : IsAnswer words source.left source.faults source.faults_then world meant text
-  pub whole : WasRead meant → source.left_then ≡ left_after source.left (input_limit + 1)
-  pub told : Tells meant text answer sink.written sink.written_then sink.faults sink.faults_then
+  pub cause : IsAnswer words source meant text world
+  pub told : Tells meant text answer sink
 
--- a fact of the line and the code of a refusal
-abbrev pub OnRefused : Status → (ℕ → ℕ → Type 0) → Type 0
-OnRefused (status.Refused line code) P = P line code
-OnRefused s P = Unit {0}
+-- ---- when
 
--- the answer is told by one line
-abbrev pub IsLine : Status → Type 0
-IsLine status.Ok = ⊥
-IsLine status.WriteFault = ⊥
-IsLine s = Unit {0}
+-- a command was asked for, and this is so of the bytes that the source had
+abbrev pub IsAsked : Words → SourceEnds → (Command → List ℕ → Type 0) → Type 0
+IsAsked words source P = (command : Command) × ((bytes : List ℕ) × (IsCommand words command × (source.left ≡ Some bytes) × P command bytes))
 
--- the text of the map of the case that the command runs has been written, and nothing else
-abbrev pub WroteModel : Command → Option (List ℕ) → Option (List ℕ) → List ℕ → Type 0
-WroteModel command old new bytes = (c : Case) × Accepts command bytes c × (new ≡ appended old (model_text c))
+-- an answer is due; want of memory never is
+abbrev pub IsDue : Words → SourceEnds → SinkEnds → Status → Type 0
+IsDue words source sink status.Usage = IsUsage words
+IsDue words source sink status.ReadFault = source.faults < source.faults_then
+IsDue words source sink (status.Refused line code) = IsAsked words source (λ command bytes. Refuses command bytes line code)
+IsDue words source sink status.Ok = IsAsked words source (λ command bytes. (c : Case) × Accepts command bytes c)
+IsDue words source sink status.Memory = ⊥
+IsDue words source sink status.WriteFault = sink.faults < sink.faults_then
 
--- the text of this case's map has been written, or the line that tells want of memory
-abbrev pub IsDone : Case → Status → Option (List ℕ) → Option (List ℕ) → Type 0
-IsDone c answer old new =
-    ((answer ≡ status.Ok) × (new ≡ appended old (model_text c)))
-    ⊎ ((answer ≡ status.Memory) × (new ≡ appended old (status_line status.Memory)))
+-- what may be answered in place of an answer that is due
+abbrev pub in_place_of : Status → List Status
+in_place_of status.Usage = status.WriteFault ∷ []
+in_place_of status.ReadFault = status.WriteFault ∷ []
+in_place_of (status.Refused line code) = status.Memory ∷ status.ReadFault ∷ status.WriteFault ∷ []
+in_place_of status.Ok = status.Memory ∷ status.ReadFault ∷ status.WriteFault ∷ []
+in_place_of status.Memory = []
+in_place_of status.WriteFault = []
+
+-- where an answer is due it comes, or one that may come in its place
+abbrev pub AnswersDue : Words → SourceEnds → SinkEnds → Status → Type 0
+AnswersDue words source sink answer = (due : Status) → IsDue words source sink due → Contains (due ∷ in_place_of due) answer

@@ -1,19 +1,27 @@
 -- The commands, their words, and the cases that each serves.
-use Rattle.std.specs.Prelude.{◌≡◌, ℕ, ◌==◌, nat_le, Bool, true, ◌&&◌, List, [], ◌∷◌, codes, length}
+use Rattle.std.specs.Prelude.{◌≡◌, ℕ, ◌==◌, nat_le, Bool, true, ◌&&◌, List, [], ◌∷◌, codes, length, map}
+use Rattle.std.specs.Borrow.{Bor}
 use Rattle.bf_case.specs.declared.case.Case.{Case}
 use Rattle.bf_cli.specs.declared.command.Command.{Command}
 use Rattle.bf_cli.specs.declared.command.Command.TheVariants as commands
+
+-- the words of a command line, and their texts
+abbrev pub Words : Type 0
+Words = List (Bor (List ℕ))
+
+abbrev pub texts : Words → List (List ℕ)
+texts words = map (λ (word : Bor (List ℕ)). word.now) words
 
 -- the words of a command
 abbrev pub words_of : Command → List (List ℕ)
 words_of commands.One = codes "one" ∷ []
 words_of commands.Drive = codes "drive" ∷ []
 
-abbrev pub IsCommand : List (List ℕ) → Command → Type 0
-IsCommand words command = words ≡ words_of command
+abbrev pub IsCommand : Words → Command → Type 0
+IsCommand words command = texts words ≡ words_of command
 
 -- the words of no command
-abbrev pub IsUsage : List (List ℕ) → Type 0
+abbrev pub IsUsage : Words → Type 0
 IsUsage words = (command : Command) → IsCommand words command → ⊥
 
 -- whether a command serves a case yet: one process serves all; ranks those with no regrid, one snapshot, at the end, and no deaths

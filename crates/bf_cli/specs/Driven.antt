@@ -1,5 +1,5 @@
 -- The world of a case that ranks have run.
-use Rattle.std.specs.Prelude.{List, Option, IsTrue}
+use Rattle.std.specs.Prelude.{ℕ, List, Option, IfSome, IsTrue}
 use Rattle.bf_block.specs.declared.setup.Setup.{Setup}
 use Rattle.bf_block.specs.Block.{BlockValue}
 use Rattle.bf_block.specs.Setup.{case_of}
@@ -10,6 +10,8 @@ use Rattle.bf_drive.specs.Drives.{IsDriven}
 use Rattle.bf_forest.specs.declared.message.ForestMessage.{ForestMessage}
 use Rattle.bf_forest.specs.Goods.{IsGood}
 use Rattle.bf_forest.specs.Meanings.{forest}
+use Rattle.bf_cli.specs.declared.command.Command.TheVariants as commands
+use Rattle.bf_cli.specs.Inputs.{Accepts}
 
 -- what contracts see of it
 abbrev pub ForestWorld : Type 0
@@ -23,3 +25,8 @@ pub record HasRun (world : ForestWorld) : Type 0 where
 -- how the run ended, if it did
 abbrev pub outcome_of : ForestWorld → Option Outcome
 outcome_of world = (core_after forest world.setup world.journal).outcome
+
+-- ranks have run the case of these bytes, where they are told
+pub record IsWorldOf (left : Option (List ℕ)) (world : ForestWorld) : Type 0 where
+  pub run : HasRun world
+  pub its : IfSome left (λ bytes. Accepts commands.Drive bytes (case_of world.setup))

@@ -1,8 +1,9 @@
 //! What is to be told, and telling it.
-ghost use Rattle.std.specs.Prelude.{◌≡◌, ℕ, List, [], ◌≤◌, ◌++◌, OnOk, OnErr, decimal, map};
+ghost use Rattle.std.specs.Prelude.{◌≡◌, ℕ, List, ◌≤◌, ◌++◌, Some, OnOk, OnErr, decimal, map};
 ghost use Rattle.bf_case.specs.MapText.{map_text};
 ghost use Rattle.bf_cli.specs.Answers.{status_line, Tells};
-ghost use Rattle.bf_cli.specs.Told.{IsMeantBy};
+ghost use Rattle.bf_cli.specs.Ends.{sink_ends};
+ghost use Rattle.bf_cli.specs.Told.{IsMeant};
 ghost use Rattle.bf_edge.specs.Faults.{Rose};
 ghost use Rattle.bf_edge.specs.Sheet.{Prints};
 ghost use Rattle.bf_edge.specs.Sink.{appended, AppendsPrefix};
@@ -82,8 +83,7 @@ fn status_told(told: Result<(), Failed>, meant: Status) -> Status
 
 /// Tells a status by its line, and gives the status that the call then has.
 fn tell_line<W: Sink>(sink: &mut W, status: Status) -> Status
-    ensures told { Tells status (status_line status) result (W.written sink.old) (W.written sink.new) (W.faults sink.old) (W.faults sink.new) }
-    ensures never_falls { W.faults sink.old ≤ W.faults sink.new }
+    ensures { Tells status (status_line status) result (sink_ends W.written W.faults sink.old sink.new) }
 {
     let told = write_status(sink, status);
     status_told(told, status)
@@ -91,8 +91,7 @@ fn tell_line<W: Sink>(sink: &mut W, status: Status) -> Status
 
 /// Tells a map by its text.
 fn tell_map<W: Sink, L: AsLeaf>(sink: &mut W, leaves: &[L]) -> Status
-    ensures told { Tells Status.Ok (map_text (map L.leaf leaves.now)) result (W.written sink.old) (W.written sink.new) (W.faults sink.old) (W.faults sink.new) }
-    ensures never_falls { W.faults sink.old ≤ W.faults sink.new }
+    ensures { Tells Status.Ok (map_text (map L.leaf leaves.now)) result (sink_ends W.written W.faults sink.old sink.new) }
 {
     let told = write_map(sink, leaves);
     status_told(told, Status::Ok)
@@ -100,9 +99,8 @@ fn tell_map<W: Sink, L: AsLeaf>(sink: &mut W, leaves: &[L]) -> Status
 
 /// Tells the leaves of a finished world. Of one that has ended otherwise it tells that memory was wanting.
 fn tell_world<W: Sink>(alloc: Global, sink: &mut W, world: &World<Forest>) -> Status
-    ensures told { (meant : Status) × ((text : List ℕ) × (IsMeantBy world.now meant text
-        × Tells meant text result (W.written sink.old) (W.written sink.new) (W.faults sink.old) (W.faults sink.new))) }
-    ensures never_falls { W.faults sink.old ≤ W.faults sink.new }
+    ensures { (meant : Status) × ((text : List ℕ) × (IsMeant (Answer.World world.now) meant text (Some world.now)
+        × Tells meant text result (sink_ends W.written W.faults sink.old sink.new))) }
 {
     world.known();
     a_finished_run_has_the_leaves();
@@ -116,16 +114,15 @@ fn tell_world<W: Sink>(alloc: Global, sink: &mut W, world: &World<Forest>) -> St
 }
 
 impl Answer {
-    ghost use Rattle.std.specs.Prelude.{◌≡◌, ℕ, List, ◌≤◌};
-    ghost use Rattle.bf_cli.specs.Told.{IsMeant, world_in};
+    ghost use Rattle.std.specs.Prelude.{ℕ, List};
+    ghost use Rattle.bf_cli.specs.Told.{IsMeant};
     ghost use Rattle.bf_cli.specs.Answers.{Tells};
+    ghost use Rattle.bf_cli.specs.Ends.{sink_ends};
 
     /// Tells the answer, and gives how the call then ends.
     pub(crate) fn tell<W: Sink>(self, alloc: Global, sink: &mut W) -> Ended
-        ensures told { (meant : Status) × ((text : List ℕ) × (IsMeant self meant text
-            × Tells meant text result.status (W.written sink.old) (W.written sink.new) (W.faults sink.old) (W.faults sink.new))) }
-        ensures world { result.world ≡ world_in self }
-        ensures never_falls { W.faults sink.old ≤ W.faults sink.new }
+        ensures { (meant : Status) × ((text : List ℕ) × (IsMeant self meant text result.world
+            × Tells meant text result.status (sink_ends W.written W.faults sink.old sink.new))) }
     {
         match self {
             Answer::Map(map) => Ended {

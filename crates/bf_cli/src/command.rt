@@ -1,6 +1,6 @@
 //! The words of the command line.
-ghost use Rattle.std.specs.Prelude.{◌≡◌, ◌↔◌, ◌∷◌, [], map, IsTrue, MatchOption};
-ghost use Rattle.bf_cli.specs.Commands.{IsCommand, IsUsage};
+ghost use Rattle.std.specs.Prelude.{◌≡◌, ◌↔◌, ◌∷◌, [], IsTrue, MatchOption};
+ghost use Rattle.bf_cli.specs.Commands.{texts, IsCommand, IsUsage};
 
 /// What the words ask for.
 #[derive(Clone, Copy, Debug, PartialEq, Eq)]
@@ -13,14 +13,14 @@ pub enum Command {
 
 // Whether there is this one word alone.
 fn is_word(words: &[&str], word: &str) -> bool
-    ensures { IsTrue result ↔ (map (λ word. word.now) words.now ≡ word.now ∷ []) }
+    ensures { IsTrue result ↔ (texts words.now ≡ word.now ∷ []) }
 {
     words.len() == 1 && words[0] == word
 }
 
 /// The command that the words ask for, if there is one.
 pub fn command_of(words: &[&str]) -> Option<Command>
-    ensures { MatchOption result (IsUsage (map (λ word. word.now) words.now)) (IsCommand (map (λ word. word.now) words.now)) }
+    ensures { MatchOption result (IsUsage words.now) (IsCommand words.now) }
 {
     if is_word(words, "one") {
         return Some(Command::One);

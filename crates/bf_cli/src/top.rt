@@ -1,20 +1,11 @@
 //! The top call: words, a source and a sink.
-ghost use Rattle.std.specs.Prelude.{◌≡◌, ◌⊎◌, ℕ, ◌+◌, ◌<◌, ◌≤◌, List, [], ◌∷◌, map, Some, None, IfOk, IfSome, IsTrue, OnOk};
-ghost use Rattle.bf_edge.specs.Faults.{Rose};
-ghost use Rattle.bf_edge.specs.Sink.{appended};
-ghost use Rattle.bf_edge.specs.Source.{left_after, Passes};
-ghost use Rattle.bf_case.specs.declared.case.Case.{Case};
+ghost use Rattle.std.specs.Prelude.{ℕ, List, IfOk, IsTrue};
 ghost use Rattle.bf_case.specs.Case.{IsValid};
-ghost use Rattle.bf_block.specs.Setup.{case_of};
-ghost use Rattle.bf_text.specs.Reading.{input_limit};
-ghost use Rattle.bf_core.specs.declared.outcome.Outcome.TheVariants.{Finished};
-ghost use Rattle.bf_cli.specs.Answers.{model_text, status_line, Answers, IsAmong, IsDone, IsLine, IsWorldOf, OnRefused, WasRead, WroteModel};
-ghost use Rattle.bf_cli.specs.Commands.{IsCommand, IsUsage, serves};
-ghost use Rattle.bf_cli.specs.Inputs.{Accepts, Refuses};
-ghost use Rattle.bf_cli.specs.Driven.{ForestWorld, outcome_of};
-ghost use Rattle.bf_cli.specs.Told.{meant_by, IsAnswerFor, IsAnswerTo, IsCaused, IsSourceAnswer};
-ghost use Rattle.bf_cli.specs.declared.command.Command.{Command};
-ghost use Rattle.bf_cli.specs.declared.status.Status.{Status};
+ghost use Rattle.bf_cli.specs.Answers.{Answers, AnswersDue, IsAnswer, IsAnswerOf};
+ghost use Rattle.bf_cli.specs.Commands.{serves};
+ghost use Rattle.bf_cli.specs.Ends.{source_ends, sink_ends, source_of, IsLeft};
+ghost use Rattle.bf_cli.specs.Inputs.{Accepts};
+ghost use Rattle.bf_cli.specs.Told.{IsCaused};
 
 use crate::answer::Answer;
 use crate::command::{Command, command_of};
@@ -32,7 +23,7 @@ use std::alloc::Global;
 fn run_case(alloc: Global, command: Command, case: Case) -> Result<Answer, Memory>
     requires valid { IsValid case }
     requires served { IsTrue (serves command case) }
-    ensures { IfOk result (IsAnswerFor command case) }
+    ensures { IfOk result (λ answer. (bytes : List ℕ) → Accepts command bytes case → IsCaused (IsAnswerOf command (source_of bytes)) answer) }
 {
     match command {
         Command::One => {
@@ -48,7 +39,7 @@ fn run_case(alloc: Global, command: Command, case: Case) -> Result<Answer, Memor
 
 /// Reads a case from its bytes and runs it.
 fn run_bytes(alloc: Global, command: Command, bytes: &[u8]) -> Result<Answer, Memory>
-    ensures { IfOk result (IsAnswerTo command bytes.now) }
+    ensures { IfOk result (IsCaused (IsAnswerOf command (source_of bytes.now))) }
 {
     what_is_read_is_valid();
     match read_input(alloc, command, bytes)? {
@@ -59,10 +50,8 @@ fn run_bytes(alloc: Global, command: Command, bytes: &[u8]) -> Result<Answer, Me
 
 /// Reads the source and runs the case that it gives.
 fn run_source<R: Source>(alloc: Global, command: Command, source: &mut R) -> Answer
-    ensures cause { IsSourceAnswer command (R.left source.old) (R.faults source.old) (R.faults source.new) result }
-    ensures whole { WasRead (meant_by result) → R.left source.new ≡ left_after (R.left source.old) (input_limit + 1) }
-    ensures passed { Passes (R.left source.old) (R.left source.new) (input_limit + 1) }
-    ensures never_falls { R.faults source.old ≤ R.faults source.new }
+    ensures cause { IsCaused (IsAnswerOf command (source_ends R.left R.faults source.old source.new)) result }
+    ensures left { IsLeft (source_ends R.left R.faults source.old source.new) }
 {
     match read_up_to(alloc, source, INPUT_LIMIT) {
         Ok(bytes) => match run_bytes(alloc, command, bytes.as_slice()) {
@@ -76,12 +65,8 @@ fn run_source<R: Source>(alloc: Global, command: Command, source: &mut R) -> Ans
 
 /// What there is to answer to the words and the source.
 fn answer_to<R: Source>(alloc: Global, words: &[&str], source: &mut R) -> Answer
-    ensures cause { IsCaused (map (λ word. word.now) words.now) (R.left source.old) (R.faults source.old) (R.faults source.new) result }
-    ensures unread { IsUsage (map (λ word. word.now) words.now)
-        → (R.left source.new ≡ R.left source.old) × (R.faults source.new ≡ R.faults source.old) }
-    ensures whole { WasRead (meant_by result) → R.left source.new ≡ left_after (R.left source.old) (input_limit + 1) }
-    ensures passed { Passes (R.left source.old) (R.left source.new) (input_limit + 1) }
-    ensures never_falls { R.faults source.old ≤ R.faults source.new }
+    ensures cause { IsCaused (IsAnswer words.now (source_ends R.left R.faults source.old source.new)) result }
+    ensures left { IsLeft (source_ends R.left R.faults source.old source.new) }
 {
     match command_of(words) {
         Some(command) => run_source(alloc, command, source),
@@ -103,61 +88,21 @@ pub fn plain<R: Source, W: Sink>(
     source: &mut R,
     sink: &mut W,
 ) -> Ended
-    // What is written, and why: the front of it, where the sink fails.
-    ensures answers { Answers (map (λ word. word.now) words.now)
-        (record {
-          left = R.left source.old;
-          left_then = R.left source.new;
-          faults = R.faults source.old;
-          faults_then = R.faults source.new;
-        })
-        (record {
-          written = W.written sink.old;
-          written_then = W.written sink.new;
-          faults = W.faults sink.old;
-          faults_then = W.faults sink.new;
-        })
+    // Why this answer, and what is written: the text of an answer that has its cause, or the front of it where the sink fails.
+    ensures answers { Answers words.now
+        (source_ends R.left R.faults source.old source.new)
+        (sink_ends W.written W.faults sink.old sink.new)
         result.world
         result.status }
-    ensures done { result.status ≡ Status.Ok → (command : Command) × (IsCommand (map (λ word. word.now) words.now) command
-        × IfSome (R.left source.old) (WroteModel command (W.written sink.old) (W.written sink.new))) }
-    ensures line { IsLine result.status → W.written sink.new ≡ appended (W.written sink.old) (status_line result.status) }
 
-    // Each answer has its cause, and comes where its cause is.
-    ensures usage { result.status ≡ Status.Usage → IsUsage (map (λ word. word.now) words.now) }
-    ensures usage_always { IsUsage (map (λ word. word.now) words.now)
-        → IsAmong (Status.Usage ∷ Status.WriteFault ∷ []) result.status }
-    ensures refused { OnRefused result.status (λ line code. (command : Command) × (IsCommand (map (λ word. word.now) words.now) command
-        × IfSome (R.left source.old) (λ bytes. Refuses command bytes line code))) }
-    ensures refused_always { (command : Command) (bytes : List ℕ) (line code : ℕ)
-        → IsCommand (map (λ word. word.now) words.now) command → R.left source.old ≡ Some bytes → Refuses command bytes line code
-        → IsAmong (Status.Refused line code ∷ Status.Memory ∷ Status.ReadFault ∷ Status.WriteFault ∷ []) result.status }
-    ensures read_fault { result.status ≡ Status.ReadFault → Rose (R.faults source.old) (R.faults source.new) }
-    ensures read_fault_always { R.faults source.old < R.faults source.new
-        → IsAmong (Status.ReadFault ∷ Status.WriteFault ∷ []) result.status }
-    ensures write_fault { result.status ≡ Status.WriteFault → Rose (W.faults sink.old) (W.faults sink.new) }
-    ensures write_fault_always { W.faults sink.old < W.faults sink.new → result.status ≡ Status.WriteFault }
+    // An answer that is due comes, or one that may come in its place.
+    ensures due { AnswersDue words.now
+        (source_ends R.left R.faults source.old source.new)
+        (sink_ends W.written W.faults sink.old sink.new)
+        result.status }
 
-    // An accepted input and no fault: the text of the model, or want of memory.
-    ensures complete { (command : Command) (bytes : List ℕ) (c : Case)
-        → IsCommand (map (λ word. word.now) words.now) command → R.left source.old ≡ Some bytes → Accepts command bytes c
-        → (Rose (R.faults source.old) (R.faults source.new) → ⊥) → (Rose (W.faults sink.old) (W.faults sink.new) → ⊥)
-        → IsDone c result.status (W.written sink.old) (W.written sink.new) }
-
-    // What the ranks have run.
-    ensures world { IfSome result.world (λ world. IsCommand (map (λ word. word.now) words.now) Command.Drive
-        × IsWorldOf (R.left source.old) world) }
-    ensures finished { result.status ≡ Status.Ok → IsCommand (map (λ word. word.now) words.now) Command.Drive
-        → (world : ForestWorld) × ((result.world ≡ Some world) × (outcome_of world ≡ Some Finished)
-        × (W.written sink.new ≡ appended (W.written sink.old) (model_text (case_of world.setup)))) }
-
-    // What the source has left.
-    ensures unread { IsUsage (map (λ word. word.now) words.now)
-        → (R.left source.new ≡ R.left source.old) × (R.faults source.new ≡ R.faults source.old) }
-    ensures whole { WasRead result.status → R.left source.new ≡ left_after (R.left source.old) (input_limit + 1) }
-    ensures passed { Passes (R.left source.old) (R.left source.new) (input_limit + 1) }
-    ensures source_never_falls { R.faults source.old ≤ R.faults source.new }
-    ensures sink_never_falls { W.faults sink.old ≤ W.faults sink.new }
+    // What is left of the source.
+    ensures left { IsLeft (source_ends R.left R.faults source.old source.new) }
 {
     let answer = answer_to(alloc, words, source);
     answer.tell(alloc, sink)

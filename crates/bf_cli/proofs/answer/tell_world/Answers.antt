@@ -12,8 +12,8 @@ use Rattle.bf_cli.specs.declared.status.Status.TheVariants as status
 use Rattle.bf_cli.proofs.DrivenLemmas.{finished_text}
 use Rattle.bf_cli.proofs.answer.tell_world.Goals as goal
 
-pub returns-in-Ok-clause-told : goal.returns-in-Ok-clause-told
-returns-in-Ok-clause-told g c =
+pub returns-in-Ok : goal.returns-in-Ok
+returns-in-Ok g c =
     let world = c.args.world.now in
     let leaves = c.as_slice.result.now in
     let block_of : Bor BlockValue → BlockValue = λ block. block.now in
@@ -24,6 +24,6 @@ returns-in-Ok-clause-told g c =
       status.Ok,
       (
         map_text (map (λ (block : Bor BlockValue). leaf_of block.now) leaves),
-        (inl (refl, finished, finished_text block_of world leaves c.a_finished_run_has_the_leaves.ensures c.leaves_in_order_are_the_map.ensures c.known.ensures finished same rising), c.tell_map.ensures.told),
+        ((inl (refl, finished, finished_text block_of world leaves c.a_finished_run_has_the_leaves.ensures c.leaves_in_order_are_the_map.ensures c.known.ensures finished same rising), refl), c.tell_map.ensures),
       ),
     )

@@ -1,6 +1,6 @@
 use Rattle.std.proofs.Common.{sym, ◌∙◌}
 use Rattle.std.proofs.lemmas.Result.{IfOk-weaker}
-use Rattle.bf_cli.proofs.AnswerLemmas.{served, answer_to_bytes}
+use Rattle.bf_cli.proofs.AnswerLemmas.{served, refusal_answers}
 use Rattle.bf_cli.proofs.top.run_bytes.Goals as goal
 
 pub run_case-requires-clause-valid : goal.run_case-requires-clause-valid
@@ -16,5 +16,7 @@ run_case-requires-clause-served c =
 pub returns-in-Accepted : goal.returns-in-Accepted
 returns-in-Accepted c =
     let accepted = sym c.in_ok-case.ensures ∙ c.in-Accepted.is in
-    let valid = c.what_is_read_is_valid.ensures c.args.bytes.now c.in-Accepted.case (served c.args.command c.args.bytes.now c.in-Accepted.case accepted).spelled in
-    IfOk-weaker c.run_case.result _ _ (λ answer is. answer_to_bytes c.args.command c.args.bytes.now c.in-Accepted.case answer accepted valid is) c.run_case.ensures
+    IfOk-weaker c.run_case.result _ _ (λ answer caused. caused c.args.bytes.now accepted) c.run_case.ensures
+
+pub returns-in-Refused : goal.returns-in-Refused
+returns-in-Refused c = refusal_answers c.args.command c.args.bytes.now c.in-Refused.line c.in-Refused.code (sym c.in_ok-case.ensures ∙ c.in-Refused.is)

@@ -1,5 +1,11 @@
-use Rattle.bf_cli.proofs.AnswerLemmas.{no_regrid}
+use Rattle.bf_cli.proofs.AnswerLemmas.{no_regrid, ranks_answer}
+use Rattle.bf_cli.proofs.DrivenLemmas.{has_run}
 use Rattle.bf_cli.proofs.top.run_case.Goals as goal
 
 pub run-requires : goal.run-requires
 run-requires c = record { valid = c.requires.valid; no_regrid = no_regrid c.args.command c.args.case c.in-Drive.is c.requires.served }
+
+pub returns-in_ok-world-in-Drive : goal.returns-in_ok-world-in-Drive
+returns-in_ok-world-in-Drive c =
+    let ran = c.in_ok-world-in-Drive.ensures in
+    ranks_answer c.args.case _ c.args.command c.in-Drive.is (has_run c.args.case _ ran.setup ran.complete ran.driven) ran.setup
