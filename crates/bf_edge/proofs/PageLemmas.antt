@@ -1,6 +1,6 @@
 -- Texts that are put one after the other.
 use Rattle.std.proofs.Common.{◌≡◌, ℕ, ◌+◌, ◌<◌, ◌≤◌, List, [], ◌∷◌, ◌++◌, length, get_or, take, drop, flat_map, Option, refl, sym, ap, ap₂, subst, ◌∙◌, append_assoc, arith, take-add, drop-drop, length-append, length-drop}
-use Rattle.std.proofs.lemmas.List.{append-nil, take-append-le, drop-append-le, take_more, take-append-drop, take_all, drop_all, take_at, drop_at}
+use Rattle.std.proofs.lemmas.List.{append-nil, take-append-le, drop-append-le, take_more, take-append-drop, take_at, drop_at}
 use Rattle.std.proofs.Math.Seq.{take-append-add}
 use Rattle.std.proofs.lemmas.List.Concat.{flat_map-append}
 use Rattle.bf_edge.specs.Sink.{appended, AppendsPrefix}

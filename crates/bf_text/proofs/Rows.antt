@@ -1,7 +1,6 @@
 -- Worked rows of the reading, computed from the definitions.
 use Rattle.std.proofs.Common.{◌≡◌, ℕ, ◌<◌, length, List, [], ◌∷◌, ◌++◌, take, drop, ◌-◌, refl, Ok, Err}
 use Rattle.std.specs.Prelude.{codes, flat_map, slice_set}
-use Rattle.bf_case.specs.declared.case.Case.{Case}
 use Rattle.bf_case.specs.Rows.{smallest, box}
 use Rattle.bf_text.specs.declared.code.Code.TheVariants as code
 use Rattle.std.proofs.lemmas.Bool.{lt-ltb}
