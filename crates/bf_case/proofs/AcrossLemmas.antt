@@ -5,9 +5,10 @@ use Rattle.std.proofs.lemmas.Nat.{pow_pos, pow-add}
 use Rattle.std.proofs.lemmas.Bool.{cases_lt}
 use Rattle.std.proofs.lemmas.List.Elements.{All-contains}
 use Rattle.bf_id.specs.declared.shape.Shape.{Shape}
-use Rattle.bf_id.specs.declared.face.Face.{Face}
-use Rattle.bf_id.specs.declared.face.Face.TheVariants.{XLow, XHigh, YLow, YHigh, ZLow, ZHigh}
-use Rattle.bf_id.specs.Face.{number_of, opposite_of, SharesFace}
+use Rattle.bf_face.specs.declared.face.Face.{Face}
+use Rattle.bf_face.specs.declared.face.Face.TheVariants.{XLow, XHigh, YLow, YHigh, ZLow, ZHigh}
+use Rattle.bf_face.specs.Face.{number_of, opposite_of}
+use Rattle.bf_id.specs.Face.{SharesFace}
 use Rattle.bf_id.specs.Axis.{JoinsOn, IsLast, back, on}
 use Rattle.bf_id.specs.Shape.{IsShape, InDomain, root_cube, axis_x, axis_y, axis_z}
 use Rattle.bf_id.proofs.Axes.{OverlapsOn-here}

@@ -5,10 +5,11 @@ use Rattle.std.proofs.lemmas.Bool.{cases_lt, cases_order}
 use Rattle.std.proofs.lemmas.Bool.Decides.{nat_tests}
 use Rattle.std.proofs.lemmas.List.Elements.{All-contains}
 use Rattle.bf_id.specs.declared.shape.Shape.{Shape}
-use Rattle.bf_id.specs.declared.face.Face.{Face}
-use Rattle.bf_id.specs.declared.face.Face.TheVariants.{XLow, XHigh, YLow, YHigh, ZLow, ZHigh}
+use Rattle.bf_face.specs.declared.face.Face.{Face}
+use Rattle.bf_face.specs.declared.face.Face.TheVariants.{XLow, XHigh, YLow, YHigh, ZLow, ZHigh}
 use Rattle.bf_id.specs.Cube.{Cube, Holds, Spans, Overlaps, halved}
-use Rattle.bf_id.specs.Face.{number_of, opposite_of, SharesFace}
+use Rattle.bf_face.specs.Face.{number_of, opposite_of}
+use Rattle.bf_id.specs.Face.{SharesFace}
 use Rattle.bf_id.specs.Id.{BlockId, IsId, InShape, Touch, box_of, level_of, parent_of, octant_of}
 use Rattle.bf_id.specs.Shape.{IsShape, axis_x, axis_y, axis_z}
 use Rattle.bf_id.proofs.Axes.{Overlaps-from_axis}

@@ -3,8 +3,8 @@ use Rattle.std.proofs.Common.{◌≡◌, ℕ, ◌+◌, ◌<◌, Option, None, So
 use Rattle.std.proofs.Math.Numerals.{add-one}
 use Rattle.std.proofs.lemmas.List.Elements.{Contains-get_or}
 use Rattle.bf_id.specs.declared.shape.Shape.{Shape}
-use Rattle.bf_id.specs.declared.face.Face.{Face}
-use Rattle.bf_id.specs.declared.face.Face.TheVariants.{XLow, XHigh, YLow, YHigh, ZLow, ZHigh}
+use Rattle.bf_face.specs.declared.face.Face.{Face}
+use Rattle.bf_face.specs.declared.face.Face.TheVariants.{XLow, XHigh, YLow, YHigh, ZLow, ZHigh}
 use Rattle.bf_id.specs.Shape.{IsShape, root_count}
 use Rattle.bf_id.specs.Id.{BlockId, root_id}
 use Rattle.bf_cells.specs.Grid.{Grid}

@@ -1,9 +1,9 @@
 -- What lies beside the faces of a block in a map.
 use Rattle.std.specs.Prelude.{◌≡◌, ℕ, ◌+◌, ◌-◌, ◌<◌, if◌then◌else◌, List, Contains}
 use Rattle.bf_id.specs.declared.shape.Shape.{Shape}
-use Rattle.bf_id.specs.declared.face.Face.{Face}
-use Rattle.bf_id.specs.declared.face.Face.TheVariants.{XLow, XHigh, YLow, YHigh, ZLow, ZHigh}
-use Rattle.bf_id.specs.Face.{number_of}
+use Rattle.bf_face.specs.declared.face.Face.{Face}
+use Rattle.bf_face.specs.declared.face.Face.TheVariants.{XLow, XHigh, YLow, YHigh, ZLow, ZHigh}
+use Rattle.bf_face.specs.Face.{number_of}
 use Rattle.bf_id.specs.Cube.{Cube, Voxel, Holds}
 use Rattle.bf_id.specs.Axis.{is_first, is_last, back, on, IsFirst, IsLast}
 use Rattle.bf_id.specs.Shape.{axis_x, axis_y, axis_z}

@@ -1,8 +1,8 @@
 -- How a block lies in its parent, along the two axes of a face.
 use Rattle.std.specs.Prelude.{ℕ, ◌/◌, ◌%◌, nat_lt, Bool, true, if◌then◌else◌, List, Contains}
 use Rattle.bf_id.specs.declared.shape.Shape.{Shape}
-use Rattle.bf_id.specs.declared.face.Face.{Face}
-use Rattle.bf_id.specs.declared.face.Face.TheVariants.{XLow, XHigh, YLow, YHigh, ZLow, ZHigh}
+use Rattle.bf_face.specs.declared.face.Face.{Face}
+use Rattle.bf_face.specs.declared.face.Face.TheVariants.{XLow, XHigh, YLow, YHigh, ZLow, ZHigh}
 use Rattle.bf_id.specs.Face.{SharesFace}
 use Rattle.bf_id.specs.Id.{BlockId, level_of, box_of, octant_of}
 use Rattle.bf_id.specs.Shape.{IsShape}

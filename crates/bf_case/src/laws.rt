@@ -3,10 +3,10 @@
 ghost use Rattle.std.specs.Prelude.{◌≡◌, ◌+◌, ◌*◌, ◌/◌, ◌<◌, ◌≤◌, ◌↔◌, ℕ, length, true, All, AllPairs, Bool, Contains, IsTrue, List, Some};
 ghost use Rattle.std.specs.List.{slice_index_or};
 ghost use Rattle.bf_id.specs.Cube.{Holds, Voxel};
-ghost use Rattle.bf_id.specs.Face.{number_of, opposite_of};
+ghost use Rattle.bf_face.specs.Face.{number_of, opposite_of};
 ghost use Rattle.bf_id.specs.Id.{box_of, child_of, level_of, octant_of, root_id, BlockId, IsId};
 ghost use Rattle.bf_id.specs.Shape.{root_count, IsShape};
-ghost use Rattle.bf_id.specs.declared.face.Face.{Face};
+ghost use Rattle.bf_face.specs.declared.face.Face.{Face};
 ghost use Rattle.bf_id.specs.Tiling.{IsBalanced, Tiles};
 ghost use Rattle.bf_id.specs.Walk.{IsBefore};
 ghost use Rattle.bf_id.specs.declared.shape.Shape.{Shape};

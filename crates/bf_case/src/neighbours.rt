@@ -2,13 +2,14 @@
 ghost use Rattle.std.specs.Prelude.{◌≡◌, ℕ, ◌+◌, ◌-◌, ◌*◌, ◌/◌, ◌%◌, ◌^◌, ◌<◌, ◌≤◌, length, IfSome, Option};
 ghost use Rattle.std.specs.Option.{ForSome};
 ghost use Rattle.bf_id.specs.Axis.{Axis, after, before};
-ghost use Rattle.bf_id.specs.Face.{number_of};
+ghost use Rattle.bf_face.specs.Face.{number_of};
 ghost use Rattle.bf_id.specs.Shape.{IsShape, root_count};
 ghost use Rattle.bf_cells.specs.Shell.{with_wall};
 ghost use Rattle.bf_case.specs.Around.{across, root_at, wall_from, walls_around, IsAround, IsGiven};
 
 use bf_cells::{Cells, Shell};
-use bf_id::{Face, Id, Shape};
+use bf_face::Face;
+use bf_id::{Id, Shape};
 
 /// Cells that are found by the numbers of their roots, of all roots or of some.
 pub trait RootCells {

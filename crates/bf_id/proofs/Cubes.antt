@@ -6,9 +6,10 @@ use Rattle.bf_id.specs.Cube.{Cube, Voxel, Holds, Within, halved, narrowed}
 use Rattle.bf_id.specs.Meeting.{Meet}
 use Rattle.bf_id.specs.Shape.{IsShape, axis_x, axis_y, axis_z}
 use Rattle.bf_id.specs.declared.shape.Shape.{Shape}
-use Rattle.bf_id.specs.Face.{opposite_of, JoinsX, JoinsY, JoinsZ, OverlapsX, OverlapsY, OverlapsZ, SharesFace}
-use Rattle.bf_id.specs.declared.face.Face.{Face}
-use Rattle.bf_id.specs.declared.face.Face.TheVariants.{XLow, XHigh, YLow, YHigh, ZLow, ZHigh}
+use Rattle.bf_face.specs.Face.{opposite_of}
+use Rattle.bf_id.specs.Face.{JoinsX, JoinsY, JoinsZ, OverlapsX, OverlapsY, OverlapsZ, SharesFace}
+use Rattle.bf_face.specs.declared.face.Face.{Face}
+use Rattle.bf_face.specs.declared.face.Face.TheVariants.{XLow, XHigh, YLow, YHigh, ZLow, ZHigh}
 use Rattle.bf_id.proofs.Steps.{IsShort}
 use Rattle.bf_id.proofs.Axes.{AreShort, MeetsOn_sym, MeetsOn-within, MeetsOn-from_overlaps, MeetsOn-from_joins, OverlapsOn_sym, half_meeting_on, joins_once, joins_part, overlaps_some}
 use Rattle.bf_id.proofs.Halves.{half_within, half_of, half_is_one}

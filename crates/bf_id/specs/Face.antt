@@ -1,29 +1,11 @@
--- The six faces of a box.
+-- Faces that two cubes share.
 use Rattle.std.specs.Prelude.{ℕ, ◌+◌}
 use Rattle.bf_id.specs.Axis.{JoinsOn, OverlapsOn}
 use Rattle.bf_id.specs.Cube.{Cube}
 use Rattle.bf_id.specs.Shape.{axis_x, axis_y, axis_z}
 use Rattle.bf_id.specs.declared.shape.Shape.{Shape}
-use Rattle.bf_id.specs.declared.face.Face.{Face}
-use Rattle.bf_id.specs.declared.face.Face.TheVariants.{XLow, XHigh, YLow, YHigh, ZLow, ZHigh}
-
--- the place of a face in the list of the six
-abbrev pub number_of : Face → ℕ
-number_of XLow = 0
-number_of XHigh = 1
-number_of YLow = 2
-number_of YHigh = 3
-number_of ZLow = 4
-number_of ZHigh = 5
-
--- the same face as it lies on the box on its other side
-abbrev pub opposite_of : Face → Face
-opposite_of XLow = XHigh
-opposite_of XHigh = XLow
-opposite_of YLow = YHigh
-opposite_of YHigh = YLow
-opposite_of ZLow = ZHigh
-opposite_of ZHigh = ZLow
+use Rattle.bf_face.specs.declared.face.Face.{Face}
+use Rattle.bf_face.specs.declared.face.Face.TheVariants.{XLow, XHigh, YLow, YHigh, ZLow, ZHigh}
 
 -- the cubes share units along the axis
 abbrev pub OverlapsX : Shape → Cube → Cube → Type 0

@@ -6,9 +6,10 @@ ghost use Rattle.bf_id.specs.Cube.{Cube, Voxel, Holds, Within, Apart};
 ghost use Rattle.bf_id.specs.Meeting.{Meet};
 ghost use Rattle.bf_id.specs.Shape.{IsShape, root_count, root_cube, InDomain};
 ghost use Rattle.bf_id.specs.Id.{BlockId, IsId, level_of, root_id, child_of, box_of, InShape, Touch, Begins};
-ghost use Rattle.bf_id.specs.Face.{SharesFace, opposite_of};
+ghost use Rattle.bf_face.specs.Face.{opposite_of};
+ghost use Rattle.bf_id.specs.Face.{SharesFace};
 ghost use Rattle.bf_id.specs.Tiling.{Tiles, IsBalanced, split_at, merged_at};
-ghost use Rattle.bf_id.specs.declared.face.Face.{Face};
+ghost use Rattle.bf_face.specs.declared.face.Face.{Face};
 ghost use Rattle.bf_id.specs.declared.shape.Shape.{Shape};
 
 /// Touching goes both ways.

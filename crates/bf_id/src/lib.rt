@@ -11,7 +11,6 @@
 #![tactic(auto)]
 
 mod axis;
-mod face;
 mod id;
 mod id_text;
 pub mod laws;
@@ -21,7 +20,6 @@ mod region;
 mod shape;
 
 pub use axis::Axis;
-pub use face::Face;
 pub use id::Id;
 pub use id_text::IdText;
 pub use order::{a_child_has_one_parent, order_is_the_walk, order_is_total, texts_differ};

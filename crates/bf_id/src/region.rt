@@ -6,7 +6,7 @@ ghost use Rattle.bf_id.specs.Shape.{root_count, root_cube, IsShape};
 ghost use Rattle.std.specs.Prelude.{◌≡◌, ◌+◌, ◌<◌, ◌≤◌, ◌↔◌, ◌∷◌, [], All, IsTrue, MatchOption};
 
 use crate::axis::Axis;
-use crate::face::Face;
+use bf_face::Face;
 use crate::shape::Shape;
 use std::marker::Model;
 

@@ -1,4 +1,5 @@
-use crate::{Face, Id, Shape};
+use crate::{Id, Shape};
+use bf_face::Face;
 use std::process::Abort;
 
 fn assert_spells(rt: &impl Abort, text: &str, root: u32, octants: &[u8]) {

@@ -6,10 +6,10 @@ use Rattle.std.proofs.lemmas.Nat.{div_below}
 use Rattle.std.proofs.Math.Nat.{div-add-mod, mod-lt}
 use Rattle.std.proofs.lemmas.List.Elements.{All-contains}
 use Rattle.bf_id.specs.declared.shape.Shape.{Shape}
-use Rattle.bf_id.specs.declared.face.Face.{Face}
-use Rattle.bf_id.specs.declared.face.Face.TheVariants.{XLow, XHigh, YLow, YHigh, ZLow, ZHigh}
+use Rattle.bf_face.specs.declared.face.Face.{Face}
+use Rattle.bf_face.specs.declared.face.Face.TheVariants.{XLow, XHigh, YLow, YHigh, ZLow, ZHigh}
 use Rattle.bf_id.specs.Cube.{Cube, Voxel, Holds}
-use Rattle.bf_id.specs.Face.{number_of, opposite_of}
+use Rattle.bf_face.specs.Face.{number_of, opposite_of}
 use Rattle.bf_id.specs.Id.{BlockId, IsId, InShape, box_of, level_of, octant_of}
 use Rattle.bf_id.specs.Shape.{IsShape, InDomain}
 use Rattle.bf_cells.specs.Grid.{Grid}

@@ -1,9 +1,9 @@
 -- A map with its chart, and the leaves across the faces of its leaves.
 use Rattle.std.specs.Prelude.{◌≡◌, ◌≢◌, ◌+◌, ◌≤◌, List, Contains}
 use Rattle.bf_id.specs.Cube.{Cube}
-use Rattle.bf_id.specs.Face.{number_of}
+use Rattle.bf_face.specs.Face.{number_of}
 use Rattle.bf_id.specs.Id.{BlockId, box_of, level_of}
-use Rattle.bf_id.specs.declared.face.Face.{Face}
+use Rattle.bf_face.specs.declared.face.Face.{Face}
 use Rattle.bf_cells.specs.Grid.{Grid}
 use Rattle.bf_cells.specs.Shell.{Walls, wall_of}
 use Rattle.bf_case.specs.declared.case.Case.{Case}

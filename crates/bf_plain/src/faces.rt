@@ -1,6 +1,6 @@
 //! The faces of a block's box, and the units across them.
 ghost use Rattle.std.specs.Prelude.{◌≡◌, ◌+◌, ◌*◌, ◌/◌, ◌<◌, ◌≤◌, ◌↔◌, IsTrue};
-ghost use Rattle.bf_id.specs.Face.{number_of};
+ghost use Rattle.bf_face.specs.Face.{number_of};
 ghost use Rattle.bf_id.specs.Id.{octant_of};
 ghost use Rattle.bf_id.specs.Shape.{IsShape};
 ghost use Rattle.bf_case.specs.Beside.{unit_across, IsAtEdge};
@@ -10,7 +10,8 @@ ghost use Rattle.bf_plain.specs.Survey.{IsNarrow};
 
 use crate::atlas::Voxel;
 use crate::places::Block;
-use bf_id::{Axis, Face, Id, Shape};
+use bf_face::Face;
+use bf_id::{Axis, Id, Shape};
 
 /// The face of a number.
 pub(crate) fn face_at(number: usize) -> Face

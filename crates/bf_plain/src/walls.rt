@@ -1,7 +1,7 @@
 //! The walls around a leaf: what lies next to its faces, in leaves of its level and of the levels beside it.
 ghost use Rattle.std.specs.Prelude.{◌≡◌, ℕ, ◌+◌, ◌-◌, ◌*◌, ◌/◌, ◌%◌, ◌<◌, ◌≤◌, length, Contains};
 ghost use Rattle.bf_id.specs.Cube.{Holds};
-ghost use Rattle.bf_id.specs.Face.{number_of, opposite_of};
+ghost use Rattle.bf_face.specs.Face.{number_of, opposite_of};
 ghost use Rattle.bf_id.specs.Id.{box_of, level_of, octant_of};
 ghost use Rattle.bf_id.specs.Shape.{InDomain};
 ghost use Rattle.bf_cells.specs.Levels.{doubled_face};
@@ -15,7 +15,8 @@ use crate::faces::{face_at, halves, octant_of};
 use crate::places::Block;
 use bf_case::Case;
 use bf_cells::{Cells, Shell};
-use bf_id::{Face, Id};
+use bf_face::Face;
+use bf_id::Id;
 
 /// The leaves of a map, with their atlas.
 #[derive(Clone, Copy)]

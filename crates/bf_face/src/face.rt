@@ -12,7 +12,7 @@ pub enum Face {
 }
 
 impl Face {
-    ghost use Rattle.bf_id.specs.Face.{number_of, opposite_of};
+    ghost use Rattle.bf_face.specs.Face.{number_of, opposite_of};
 
     /// The six, each at the place that is its number.
     pub const ALL: [Face; 6] = [
