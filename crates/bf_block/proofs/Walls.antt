@@ -1,5 +1,5 @@
 -- The walls around a root hold the samples beyond its faces.
-use Rattle.std.proofs.Common.{◌≡◌, ℕ, ◌+◌, ◌<◌, true, List, Some, inl, refl, sym, ◌∙◌, subst}
+use Rattle.std.proofs.Common.{◌≡◌, ℕ, ◌<◌, true, List, Some, inl, refl, sym, ◌∙◌, subst}
 use Rattle.bf_id.specs.Shape.{root_count}
 use Rattle.bf_id.specs.Id.{root_id}
 use Rattle.bf_cells.specs.Grid.{Grid}

@@ -7,7 +7,7 @@ use Rattle.std.proofs.lemmas.List.Elements.{All-contains}
 use Rattle.bf_id.specs.declared.shape.Shape.{Shape}
 use Rattle.bf_face.specs.declared.face.Face.{Face}
 use Rattle.bf_face.specs.declared.face.Face.TheVariants.{XLow, XHigh, YLow, YHigh, ZLow, ZHigh}
-use Rattle.bf_face.specs.Face.{number_of, opposite_of}
+use Rattle.bf_face.specs.Face.{opposite_of}
 use Rattle.bf_id.specs.Face.{SharesFace}
 use Rattle.bf_id.specs.Axis.{JoinsOn, IsLast, back, on}
 use Rattle.bf_id.specs.Shape.{IsShape, InDomain, root_cube, axis_x, axis_y, axis_z}
@@ -103,7 +103,7 @@ corner_across shape side i e ZHigh a b = let p = face_corner shape side i ZHigh 
 -- at the domain's edge the value beside a cell is its own
 pub edge_beside : (shape : Shape) (leaves : List Leaf) (i : BlockId) (g : Grid) (face : Face) (a b : ℕ) → 0 < g.side
     → (box_of shape i).edge ≡ scale_of (level_of i) → IsAtEdge shape (box_of shape i) face
-    → value_beside shape leaves i g face a b ≡ face_cell g (number_of face) a b
+    → value_beside shape leaves i g face a b ≡ face_cell g face a b
 edge_beside shape leaves i g XLow a b some edge at = first-parts (axis_x shape) g.side (box_of shape i).x (scale_of (level_of i)) _ _ at
 edge_beside shape leaves i g XHigh a b some edge at =
     last-parts (axis_x shape) g.side (box_of shape i).x (scale_of (level_of i)) _ _ some (subst (λ n. IsLast (axis_x shape) ((box_of shape i).x + n)) edge at)
@@ -177,7 +177,7 @@ in_across shape side i other ZHigh t n a b ca cb some ends ends' shares meets =
 
 -- the cell of the other block is on its opposite face
 pub cell_on_face : (h : Grid) (face : Face) (a b : ℕ)
-    → let c = cell_across face (h.side - 1) a b in cell_at h c.x c.y c.z ≡ face_cell h (number_of (opposite_of face)) a b
+    → let c = cell_across face (h.side - 1) a b in cell_at h c.x c.y c.z ≡ face_cell h (opposite_of face) a b
 unfolding face_cell
 cell_on_face h XLow a b = refl
 cell_on_face h XHigh a b = refl
@@ -187,7 +187,7 @@ cell_on_face h ZLow a b = refl
 cell_on_face h ZHigh a b = refl
 
 pub mean_on_face : (h : Grid) (face : Face) (a b : ℕ)
-    → let c = cell_across face (h.side / 2 - 1) a b in mean_at h c.x c.y c.z ≡ face_mean h (number_of (opposite_of face)) a b
+    → let c = cell_across face (h.side / 2 - 1) a b in mean_at h c.x c.y c.z ≡ face_mean h (opposite_of face) a b
 unfolding face_mean
 mean_on_face h XLow a b = refl
 mean_on_face h XHigh a b = refl
@@ -348,7 +348,7 @@ pub beside_no_finer : (shape : Shape) (side : ℕ) (leaves : List Leaf) (i j : B
     → IsMap shape side leaves → Contains leaves (j, h) → (IsAtEdge shape (box_of shape i) face → ⊥) → AreAcross shape side i j g h face
     → level_of j ≤ level_of i
     → MeetsAlong side (scale_of (level_of j)) (scale_of (level_of i)) (side - 1) a b ca cb face (box_of shape i) (box_of shape j)
-    → value_beside shape leaves i g face a b ≡ face_cell h (number_of (opposite_of face)) ca cb
+    → value_beside shape leaves i g face a b ≡ face_cell h (opposite_of face) ca cb
 beside_no_finer shape side leaves i j g h face a b ca cb is has inner are coarse meets =
     let some : 0 < g.side = let t = are.some in let f = are.fits in omega arith in
     let q = corner_across shape side i (scale_of (level_of i)) face a b in
@@ -364,7 +364,7 @@ pub beside_finer : (shape : Shape) (side : ℕ) (leaves : List Leaf) (i j : Bloc
     → IsMap shape side leaves → Contains leaves (j, h) → (IsAtEdge shape (box_of shape i) face → ⊥) → AreAcross shape side i j g h face
     → level_of i < level_of j
     → MeetsAlong side (scale_of (level_of j)) (scale_of (level_of i)) (2 * (side / 2 - 1)) a b (2 * ca) (2 * cb) face (box_of shape i) (box_of shape j)
-    → value_beside shape leaves i g face a b ≡ face_mean h (number_of (opposite_of face)) ca cb
+    → value_beside shape leaves i g face a b ≡ face_mean h (opposite_of face) ca cb
 beside_finer shape side leaves i j g h face a b ca cb is has inner are fine meets =
     let some : 0 < g.side = let t = are.some in let f = are.fits in omega arith in
     let q = corner_across shape side i (scale_of (level_of i)) face a b in
@@ -393,7 +393,7 @@ half_within (suc (suc more)) e bit some = absurd (omega arith)
 
 pub same_beside : (shape : Shape) (side : ℕ) (leaves : List Leaf) (i j : BlockId) (g h : Grid) (face : Face) (a b : ℕ) → IsShape shape
     → LiesAcross shape side leaves (i, g) face 0 0 (j, h) → level_of j ≡ level_of i → a < side → b < side
-    → value_beside shape leaves i g face a b ≡ face_cell h (number_of (opposite_of face)) a b
+    → value_beside shape leaves i g face a b ≡ face_cell h (opposite_of face) a b
 same_beside shape side leaves i j g h face a b valid lies level a_in b_in =
     let own = box_of shape i in
     let other = box_of shape j in
@@ -424,7 +424,7 @@ pub coarser_beside : (shape : Shape) (side : ℕ) (leaves : List Leaf) (i j : Bl
     → half_a < 2 → first_low face (box_of shape i) ≡ first_low face (box_of shape j) + half_a * (box_of shape i).edge
     → half_b < 2 → second_low face (box_of shape i) ≡ second_low face (box_of shape j) + half_b * (box_of shape i).edge
     → a < side → b < side
-    → value_beside shape leaves i g face a b ≡ face_cell h (number_of (opposite_of face)) (half_a * (side / 2) + a / 2) (half_b * (side / 2) + b / 2)
+    → value_beside shape leaves i g face a b ≡ face_cell h (opposite_of face) (half_a * (side / 2) + a / 2) (half_b * (side / 2) + b / 2)
 coarser_beside shape side leaves i j g h face half_a half_b a b valid lies level bit_a first bit_b second a_in b_in =
     let own = box_of shape i in
     let other = box_of shape j in
@@ -450,7 +450,7 @@ pub finer_beside : (shape : Shape) (side : ℕ) (leaves : List Leaf) (i j : Bloc
     → half_a < 2 → half_b < 2
     → LiesAcross shape side leaves (i, g) face (half_a * ((box_of shape i).edge / 2)) (half_b * ((box_of shape i).edge / 2)) (j, h)
     → level_of j ≡ level_of i + 1 → a < side / 2 → b < side / 2
-    → value_beside shape leaves i g face (half_a * (side / 2) + a) (half_b * (side / 2) + b) ≡ face_mean h (number_of (opposite_of face)) a b
+    → value_beside shape leaves i g face (half_a * (side / 2) + a) (half_b * (side / 2) + b) ≡ face_mean h (opposite_of face) a b
 finer_beside shape side leaves i j g h face half_a half_b a b valid bit_a bit_b lies level a_in b_in =
     let own = box_of shape i in
     let other = box_of shape j in

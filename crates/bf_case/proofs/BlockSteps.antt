@@ -10,7 +10,7 @@ use Rattle.bf_id.proofs.Boxes.{edge-box, domain_holds}
 use Rattle.bf_id.specs.Cube.{Voxel, Holds}
 use Rattle.bf_id.specs.Shape.{IsShape}
 use Rattle.bf_cells.specs.Grid.{Grid, cell_at, table}
-use Rattle.bf_cells.specs.Shell.{Walls, wall_place, wall_of, face_cell}
+use Rattle.bf_cells.specs.Shell.{Walls, wall_place, face_cell}
 use Rattle.bf_cells.specs.Kernel.{relaxed_cell, relaxed, relaxed_grid}
 use Rattle.bf_cells.proofs.GridLemmas.{same_tables}
 use Rattle.bf_case.specs.Map.{Leaf, cells_at, ids_of, IsMap, HasCells}
@@ -41,7 +41,7 @@ relaxed_same a b c d e f g a' b' c' d' e' f' g' p q r s t u v = cc
 stepped_at : (shape : Shape) (leaves : List Leaf) (i : BlockId) (g : Grid) (w : Walls) → Stands shape leaves i g w
     → (x y z : ℕ) → x < g.side → y < g.side → z < g.side
     → stepped_value shape g.side leaves (level_of i) (cell_corner shape g.side i x y z) ≡ relaxed_cell g w x y z
-unfolding wall_of face_cell
+unfolding face_cell
 stepped_at shape leaves i g w stands x y z x_in y_in z_in =
     let scale = scale_of (level_of i) in
     let corner : Voxel = corner_of shape g.side i in

@@ -48,10 +48,6 @@ pub side-with_box : (g : Grid) (a b c d e f v : ℕ) → (with_box g a b c d e f
 unfolding with_box
 side-with_box g a b c d e f v = side-table g.side _
 
-pub side-with_row : (g : Grid) (a b y z v : ℕ) → (with_row g a b y z v).side ≡ g.side
-unfolding with_row
-side-with_row g a b y z v = side-table g.side _
-
 cell_at-with_box : (g : Grid) (a b c d e f v : ℕ) (x y z : ℕ) → x < g.side → y < g.side → z < g.side
     → cell_at (with_box g a b c d e f v) x y z ≡ cond (is_within a b x && is_within c d y && is_within e f z) v (cell_at g x y z)
 unfolding with_box

@@ -8,7 +8,7 @@ use Rattle.bf_id.specs.declared.shape.Shape.{Shape}
 use Rattle.bf_face.specs.declared.face.Face.{Face}
 use Rattle.bf_face.specs.declared.face.Face.TheVariants.{XLow, XHigh, YLow, YHigh, ZLow, ZHigh}
 use Rattle.bf_id.specs.Cube.{Cube, Holds, Spans, Overlaps, halved}
-use Rattle.bf_face.specs.Face.{number_of, opposite_of}
+use Rattle.bf_face.specs.Face.{opposite_of}
 use Rattle.bf_id.specs.Face.{SharesFace}
 use Rattle.bf_id.specs.Id.{BlockId, IsId, InShape, Touch, box_of, level_of, parent_of, octant_of}
 use Rattle.bf_id.specs.Shape.{IsShape, axis_x, axis_y, axis_z}
@@ -234,7 +234,7 @@ lies_across shape side leaves i j g h face a b are first second =
 
 pub same_shares : (shape : Shape) (side : ℕ) (leaves : List Leaf) (i j : BlockId) (g h : Grid) (face : Face) (a b : ℕ)
     → ShareFace shape side leaves (i, g) face (j, h) → level_of j ≡ level_of i → a < side → b < side
-    → value_beside shape leaves i g face a b ≡ face_cell h (number_of (opposite_of face)) a b
+    → value_beside shape leaves i g face a b ≡ face_cell h (opposite_of face) a b
 same_shares shape side leaves i j g h face a b are level a_in b_in =
     let own = leaf_is shape side leaves i g are.domain are.map are.own_in in
     let other = leaf_is shape side leaves j h are.domain are.map are.other_in in
@@ -260,7 +260,7 @@ same_shares shape side leaves i j g h face a b are level a_in b_in =
 pub coarser_shares : (shape : Shape) (side : ℕ) (leaves : List Leaf) (i j : BlockId) (g h : Grid) (face : Face) (a b : ℕ)
     → ShareFace shape side leaves (i, g) face (j, h) → level_of j + 1 ≡ level_of i → a < side → b < side
     → value_beside shape leaves i g face a b
-    ≡ face_cell h (number_of (opposite_of face)) (first_half face (octant_of i) * (side / 2) + a / 2) (second_half face (octant_of i) * (side / 2) + b / 2)
+    ≡ face_cell h (opposite_of face) (first_half face (octant_of i) * (side / 2) + a / 2) (second_half face (octant_of i) * (side / 2) + b / 2)
 coarser_shares shape side leaves i j g h face a b are level a_in b_in =
     let own = leaf_is shape side leaves i g are.domain are.map are.own_in in
     let bits = halves_are_bits face (octant_of i) (octant_small i own.id (omega arith)) in
@@ -296,7 +296,7 @@ finer_lows shape side leaves i j g h face are level =
 pub finer_shares : (shape : Shape) (side : ℕ) (leaves : List Leaf) (i j : BlockId) (g h : Grid) (face : Face) (a b : ℕ)
     → ShareFace shape side leaves (i, g) face (j, h) → level_of j ≡ level_of i + 1 → a < side / 2 → b < side / 2
     → value_beside shape leaves i g face (first_half face (octant_of j) * (side / 2) + a) (second_half face (octant_of j) * (side / 2) + b)
-    ≡ face_mean h (number_of (opposite_of face)) a b
+    ≡ face_mean h (opposite_of face) a b
 finer_shares shape side leaves i j g h face a b are level a_in b_in =
     let other = leaf_is shape side leaves j h are.domain are.map are.other_in in
     let bits = halves_are_bits face (octant_of j) (octant_small j other.id (omega arith)) in

@@ -5,7 +5,8 @@ use Rattle.std.proofs.lemmas.List.Elements.{All-contains, Contains-get_or}
 use Rattle.bf_id.specs.declared.shape.Shape.{Shape}
 use Rattle.bf_face.specs.declared.face.Face.{Face}
 use Rattle.bf_face.specs.declared.face.Face.TheVariants.{XLow, XHigh, YLow, YHigh, ZLow, ZHigh}
-use Rattle.bf_face.specs.Face.{number_of, opposite_of}
+use Rattle.bf_face.specs.Face.{all_faces, opposite_of}
+use Rattle.bf_face.proofs.FaceLemmas.{HoldsOfFirst, of_all_faces, of_one_more}
 use Rattle.bf_id.specs.Axis.{back, on}
 use Rattle.bf_id.specs.Cube.{Voxel, Spans, Holds}
 use Rattle.bf_id.specs.Shape.{IsShape, root_count, root_cube}
@@ -14,7 +15,7 @@ use Rattle.bf_id.proofs.Boxes.{root_coordinates, root_below, root_in_domain}
 use Rattle.bf_id.proofs.Steps.{back-below, on-below, back_spans, on_spans, before_cases, after_cases, first_in_parts, last_in_parts}
 use Rattle.bf_cells.specs.Grid.{Grid}
 use Rattle.bf_cells.specs.Shell.{Walls, wall_of, wall_place, with_wall, face_values}
-use Rattle.bf_cells.proofs.WallLemmas.{get_or-face_values}
+use Rattle.bf_cells.proofs.WallLemmas.{get_or-face_values, same_walls, wall_of-with_wall_other, wall_of-with_wall_same}
 use Rattle.bf_case.specs.Map.{Leaf, IsMap, HasCells}
 use Rattle.bf_case.specs.Beside.{IsAtEdge, HoldSamples, unit_across, value_beside}
 use Rattle.bf_case.specs.Around.{across, root_at, roots_x, roots_y, roots_z, x_of, y_of, z_of, AreRootIds, grid_at, nothing, wall_from, walls_around}
@@ -113,8 +114,8 @@ across_lies shape k face is below = by face
 -- ---- the walls around
 
 -- the wall at a face is laid from the root across it
-wall_is : (shape : Shape) (side : ℕ) (grid : ℕ → Grid) (k : ℕ) (face : Face) → wall_of (walls_around shape side grid k) (number_of face) ≡ wall_from grid k (across shape k face) face
-unfolding wall_of walls_around
+wall_is : (shape : Shape) (side : ℕ) (grid : ℕ → Grid) (k : ℕ) (face : Face) → wall_of (walls_around shape side grid k) face ≡ wall_from grid k (across shape k face) face
+unfolding walls_around
 wall_is shape side grid k XLow = refl
 wall_is shape side grid k XHigh = refl
 wall_is shape side grid k YLow = refl
@@ -148,28 +149,35 @@ root_walls_hold shape side leaves k valid is roots below face a b a_in b_in =
 
     by : (o : Option ℕ) → LiesAt shape k face o → get_or (wall_from (grid_at leaves) k o face) (wall_place side a b) 0 ≡ value_beside shape leaves (root_id k) (grid_at leaves k) face a b
     by None at =
-        ap (λ s. get_or (face_values (grid_at leaves k) (number_of face)) (wall_place s a b) 0) (sym (fits k has))
-        ∙ get_or-face_values (grid_at leaves k) (number_of face) a b a_in b_in
+        ap (λ s. get_or (face_values (grid_at leaves k) face) (wall_place s a b) 0) (sym (fits k has))
+        ∙ get_or-face_values (grid_at leaves k) face a b a_in b_in
         ∙ sym (edge_beside shape leaves (root_id k) (grid_at leaves k) face a b (omega arith) refl at)
     by (Some j) (j_in, inner, held) =
         let has' = root_in_leaves shape leaves j roots j_in in
         let h = grid_at leaves j in
         let same : h.side ≡ side = fits j has' in
         let own : (grid_at leaves k).side ≡ side = fits k has in
-        ap (λ s. get_or (face_values h (number_of (opposite_of face))) (wall_place s a b) 0) (sym same)
-        ∙ get_or-face_values h (number_of (opposite_of face)) a b (omega arith) (omega arith)
+        ap (λ s. get_or (face_values h (opposite_of face)) (wall_place s a b) 0) (sym same)
+        ∙ get_or-face_values h (opposite_of face) a b (omega arith) (omega arith)
         ∙ sym (same_beside shape side leaves (root_id k) (root_id j) (grid_at leaves k) h face a b valid
         (record { map = is; own_in = has; other_in = has'; inner = inner; held = held }) refl (omega arith) (omega arith))
 
--- six walls laid in turn are all that lies around the root
-pub walls_laid : (shape : Shape) (grid : ℕ → Grid) (k : ℕ) (w a b c d e f : Walls) (o p q r s t : Option ℕ)
-    → o ≡ across shape k XLow → a ≡ with_wall w 0 (wall_from grid k o XLow)
-    → p ≡ across shape k XHigh → b ≡ with_wall a 1 (wall_from grid k p XHigh)
-    → q ≡ across shape k YLow → c ≡ with_wall b 2 (wall_from grid k q YLow)
-    → r ≡ across shape k YHigh → d ≡ with_wall c 3 (wall_from grid k r YHigh)
-    → s ≡ across shape k ZLow → e ≡ with_wall d 4 (wall_from grid k s ZLow)
-    → t ≡ across shape k ZHigh → f ≡ with_wall e 5 (wall_from grid k t ZHigh)
-    → f ≡ walls_around shape w.side grid k
-unfolding with_wall walls_around
-walls_laid shape grid k w a b c d e f o p q r s t o_is a_is p_is b_is q_is c_is r_is d_is s_is e_is t_is f_is =
-    rw (f_is, e_is, d_is, c_is, b_is, a_is, o_is, p_is, q_is, r_is, s_is, t_is)
+-- the squares that are laid as they lie around the root
+abbrev pub IsWallFrom : Shape → (ℕ → Grid) → ℕ → Walls → Face → Type 0
+IsWallFrom shape grid k w face = wall_of w face ≡ wall_from grid k (across shape k face) face
+
+pub one_wall_more : (shape : Shape) (grid : ℕ → Grid) (k at : ℕ) (old new : Walls) (o : Option ℕ) → at < 6 → HoldsOfFirst (IsWallFrom shape grid k old) at
+    → o ≡ across shape k (get_or all_faces at XLow) → new ≡ with_wall old (get_or all_faces at XLow) (wall_from grid k o (get_or all_faces at XLow))
+    → HoldsOfFirst (IsWallFrom shape grid k new) (at + 1)
+one_wall_more shape grid k at old new o few first o_is is =
+    let face = get_or all_faces at XLow in
+    of_one_more (IsWallFrom shape grid k old) (IsWallFrom shape grid k new) at few first
+    (ap (λ (w : Walls). wall_of w face) is ∙ wall_of-with_wall_same old face (wall_from grid k o face) ∙ ap (λ p. wall_from grid k p face) o_is)
+    (λ other apart laid. ap (λ (w : Walls). wall_of w other) is ∙ wall_of-with_wall_other old face other (wall_from grid k o face) apart ∙ laid)
+
+-- six walls that are laid are all that lies around the root
+pub all_walls_laid : (shape : Shape) (side : ℕ) (grid : ℕ → Grid) (k count : ℕ) (w : Walls) → w.side ≡ side → count ≡ 6
+    → HoldsOfFirst (IsWallFrom shape grid k w) count → w ≡ walls_around shape side grid k
+unfolding walls_around
+all_walls_laid shape side grid k count w same all laid =
+    same_walls w (walls_around shape side grid k) same (λ face. of_all_faces (IsWallFrom shape grid k w) count all laid face ∙ sym (wall_is shape side grid k face))

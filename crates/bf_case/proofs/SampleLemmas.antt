@@ -17,6 +17,7 @@ use Rattle.bf_id.specs.Id.{BlockId, IsId, level_of, box_of, id_cmp}
 use Rattle.bf_id.specs.Walk.{IsBefore}
 use Rattle.bf_id.proofs.Boxes.{edge-box}
 use Rattle.bf_cells.specs.Grid.{IsGrid, cell_at}
+use Rattle.bf_cells.proofs.OctantLemmas.{eighth_small}
 use Rattle.bf_cells.proofs.GridLemmas.{cell_small}
 use Rattle.bf_case.specs.Map.{Leaf, ids_of, HasCells, IsMap}
 use Rattle.bf_case.specs.Sample.{scale_of, unit_of, moved, corner_of, cell_corner, leaf_at, value_at, mean_of_eight, sample_of, sample}
@@ -161,10 +162,6 @@ value_small shape side leaf p is =
     let scale = scale_of (level_of leaf.0) in
     cell_small leaf.1 is ((p.x - corner.x) / scale) ((p.y - corner.y) / scale) ((p.z - corner.z) / scale)
 
-mean_small : (a b c d e f g h : ℕ) → a < 2 ^ 32 → b < 2 ^ 32 → c < 2 ^ 32 → d < 2 ^ 32 → e < 2 ^ 32 → f < 2 ^ 32 → g < 2 ^ 32 → h < 2 ^ 32
-    → (a + b + c + d + e + f + g + h) / 8 < 2 ^ 32
-mean_small a b c d e f g h p q r s t u v w = omega arith
-
 pub sample_of_small : (shape : Shape) (side level : ℕ) (p : Voxel) (leaf : Leaf) → IsGrid leaf.1 → sample_of shape side level p leaf < 2 ^ 32
 sample_of_small shape side level p leaf is =
     let s = scale_of (level_of leaf.0) in
@@ -172,7 +169,7 @@ sample_of_small shape side level p leaf is =
     let small : (q : Voxel) → at q < 2 ^ 32 = λ q. value_small shape side leaf q is in
     cond_both (nat_le (level_of leaf.0) level) (value_at shape side leaf p) (mean_of_eight shape side leaf p) (λ n. n < 2 ^ 32)
     (λ _. small p)
-    (λ _. mean_small (at p) (at (moved p s 0 0)) (at (moved p 0 s 0)) (at (moved p s s 0)) (at (moved p 0 0 s)) (at (moved p s 0 s)) (at (moved p 0 s s)) (at (moved p s s s))
+    (λ _. eighth_small (at p) (at (moved p s 0 0)) (at (moved p 0 s 0)) (at (moved p s s 0)) (at (moved p 0 0 s)) (at (moved p s 0 s)) (at (moved p 0 s s)) (at (moved p s s s))
     (small p) (small (moved p s 0 0)) (small (moved p 0 s 0)) (small (moved p s s 0)) (small (moved p 0 0 s)) (small (moved p s 0 s)) (small (moved p 0 s s)) (small (moved p s s s)))
 
 pub sample_small : (shape : Shape) (side : ℕ) (leaves : List Leaf) (level : ℕ) (p : Voxel) → All (HasCells side) leaves → sample shape side leaves level p < 2 ^ 32

@@ -5,7 +5,7 @@ use Rattle.bf_id.specs.declared.shape.Shape.{Shape}
 use Rattle.bf_face.specs.declared.face.Face.{Face}
 use Rattle.bf_id.specs.Axis.{Axis, before, after}
 use Rattle.bf_face.specs.declared.face.Face.TheVariants.{XLow, XHigh, YLow, YHigh, ZLow, ZHigh}
-use Rattle.bf_face.specs.Face.{number_of, opposite_of}
+use Rattle.bf_face.specs.Face.{opposite_of}
 use Rattle.bf_id.specs.Id.{root_id}
 use Rattle.bf_cells.specs.Grid.{Grid}
 use Rattle.bf_cells.specs.Shell.{Walls, face_values}
@@ -50,8 +50,8 @@ IsAround shape k j = (j ≡ k) ⊎ ((face : Face) × (across shape k face ≡ So
 
 -- the square next to a root's face: the opposite face of the root across, or the root's own face
 abbrev pub wall_from : (ℕ → Grid) → ℕ → Option ℕ → Face → List ℕ
-wall_from grid k None face = face_values (grid k) (number_of face)
-wall_from grid k (Some j) face = face_values (grid j) (number_of (opposite_of face))
+wall_from grid k None face = face_values (grid k) face
+wall_from grid k (Some j) face = face_values (grid j) (opposite_of face)
 
 -- all that lies next to a root
 unfoldable pub walls_around : Shape → ℕ → (ℕ → Grid) → ℕ → Walls

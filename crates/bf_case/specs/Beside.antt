@@ -3,7 +3,6 @@ use Rattle.std.specs.Prelude.{◌≡◌, ℕ, ◌+◌, ◌-◌, ◌<◌, if◌th
 use Rattle.bf_id.specs.declared.shape.Shape.{Shape}
 use Rattle.bf_face.specs.declared.face.Face.{Face}
 use Rattle.bf_face.specs.declared.face.Face.TheVariants.{XLow, XHigh, YLow, YHigh, ZLow, ZHigh}
-use Rattle.bf_face.specs.Face.{number_of}
 use Rattle.bf_id.specs.Cube.{Cube, Voxel, Holds}
 use Rattle.bf_id.specs.Axis.{is_first, is_last, back, on, IsFirst, IsLast}
 use Rattle.bf_id.specs.Shape.{axis_x, axis_y, axis_z}
@@ -37,13 +36,13 @@ value_across shape side at scale ZHigh p own = if is_last (cells_z shape side) (
 abbrev pub value_beside : Shape → List Leaf → BlockId → Grid → Face → ℕ → ℕ → ℕ
 value_beside shape leaves i g face a b =
     value_across shape g.side (sample shape g.side leaves (level_of i)) (scale_of (level_of i)) face
-    (face_corner shape g.side i face a b) (face_cell g (number_of face) a b)
+    (face_corner shape g.side i face a b) (face_cell g face a b)
 
 -- the walls hold what lies beside each cell of this face: the sample of the block's level there, or at the domain's edge the block's own
 -- cell
 abbrev pub HoldsBeside : Shape → List Leaf → BlockId → Grid → Walls → Face → Type 0
 HoldsBeside shape leaves i g walls face =
-    (a b : ℕ) → a < g.side → b < g.side → wall_at walls (number_of face) a b ≡ value_beside shape leaves i g face a b
+    (a b : ℕ) → a < g.side → b < g.side → wall_at walls face a b ≡ value_beside shape leaves i g face a b
 
 -- the same of each face
 abbrev pub HoldSamples : Shape → List Leaf → BlockId → Grid → Walls → Type 0

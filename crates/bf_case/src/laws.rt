@@ -3,7 +3,7 @@
 ghost use Rattle.std.specs.Prelude.{◌≡◌, ◌+◌, ◌*◌, ◌/◌, ◌<◌, ◌≤◌, ◌↔◌, ℕ, length, true, All, AllPairs, Bool, Contains, IsTrue, List, Some};
 ghost use Rattle.std.specs.List.{slice_index_or};
 ghost use Rattle.bf_id.specs.Cube.{Holds, Voxel};
-ghost use Rattle.bf_face.specs.Face.{number_of, opposite_of};
+ghost use Rattle.bf_face.specs.Face.{opposite_of};
 ghost use Rattle.bf_id.specs.Id.{box_of, child_of, level_of, octant_of, root_id, BlockId, IsId};
 ghost use Rattle.bf_id.specs.Shape.{root_count, IsShape};
 ghost use Rattle.bf_face.specs.declared.face.Face.{Face};
@@ -217,23 +217,23 @@ pub fn the_kernel_between_samples_is_the_stencil()
 pub fn samples_lie_across_a_face()
     ensures edge { (shape : Shape) (side : ℕ) (leaves : List Leaf) (i : BlockId) (g : Grid) (face : Face) (a b : ℕ)
         → IsShape shape → IsMap shape side leaves → Contains leaves (i, g) → IsAtEdge shape (box_of shape i) face
-        → value_beside shape leaves i g face a b ≡ face_cell g (number_of face) a b }
+        → value_beside shape leaves i g face a b ≡ face_cell g face a b }
     ensures same { (shape : Shape) (side : ℕ) (leaves : List Leaf) (i j : BlockId) (g h : Grid) (face : Face) (a b : ℕ)
         → IsShape shape → LiesAcross shape side leaves (i, g) face 0 0 (j, h) → level_of j ≡ level_of i → a < side → b < side
-        → value_beside shape leaves i g face a b ≡ face_cell h (number_of (opposite_of face)) a b }
+        → value_beside shape leaves i g face a b ≡ face_cell h (opposite_of face) a b }
     ensures coarser { (shape : Shape) (side : ℕ) (leaves : List Leaf) (i j : BlockId) (g h : Grid) (face : Face) (half_a half_b a b : ℕ)
         → IsShape shape → LiesAcross shape side leaves (i, g) face 0 0 (j, h) → level_of j + 1 ≡ level_of i
         → half_a < 2 → first_low face (box_of shape i) ≡ first_low face (box_of shape j) + half_a * (box_of shape i).edge
         → half_b < 2 → second_low face (box_of shape i) ≡ second_low face (box_of shape j) + half_b * (box_of shape i).edge
         → a < side → b < side
         → value_beside shape leaves i g face a b
-        ≡ face_cell h (number_of (opposite_of face)) (half_a * (side / 2) + a / 2) (half_b * (side / 2) + b / 2) }
+        ≡ face_cell h (opposite_of face) (half_a * (side / 2) + a / 2) (half_b * (side / 2) + b / 2) }
     ensures finer { (shape : Shape) (side : ℕ) (leaves : List Leaf) (i j : BlockId) (g h : Grid) (face : Face) (half_a half_b a b : ℕ)
         → IsShape shape → half_a < 2 → half_b < 2
         → LiesAcross shape side leaves (i, g) face (half_a * ((box_of shape i).edge / 2)) (half_b * ((box_of shape i).edge / 2)) (j, h)
         → level_of j ≡ level_of i + 1 → a < side / 2 → b < side / 2
         → value_beside shape leaves i g face (half_a * (side / 2) + a) (half_b * (side / 2) + b)
-        ≡ face_mean h (number_of (opposite_of face)) a b }
+        ≡ face_mean h (opposite_of face) a b }
 {}
 
 /// In a balanced map a leaf that has a unit just across another one's face is at most one level finer or coarser. So
@@ -270,15 +270,15 @@ pub fn a_unit_has_one_place()
 pub fn samples_lie_in_the_leaf_that_shares_the_face()
     ensures same { (shape : Shape) (side : ℕ) (leaves : List Leaf) (i j : BlockId) (g h : Grid) (face : Face) (a b : ℕ)
         → ShareFace shape side leaves (i, g) face (j, h) → level_of j ≡ level_of i → a < side → b < side
-        → value_beside shape leaves i g face a b ≡ face_cell h (number_of (opposite_of face)) a b }
+        → value_beside shape leaves i g face a b ≡ face_cell h (opposite_of face) a b }
     ensures coarser { (shape : Shape) (side : ℕ) (leaves : List Leaf) (i j : BlockId) (g h : Grid) (face : Face) (a b : ℕ)
         → ShareFace shape side leaves (i, g) face (j, h) → level_of j + 1 ≡ level_of i → a < side → b < side
-        → value_beside shape leaves i g face a b ≡ face_cell h (number_of (opposite_of face))
+        → value_beside shape leaves i g face a b ≡ face_cell h (opposite_of face)
         (first_half face (octant_of i) * (side / 2) + a / 2) (second_half face (octant_of i) * (side / 2) + b / 2) }
     ensures finer { (shape : Shape) (side : ℕ) (leaves : List Leaf) (i j : BlockId) (g h : Grid) (face : Face) (a b : ℕ)
         → ShareFace shape side leaves (i, g) face (j, h) → level_of j ≡ level_of i + 1 → a < side / 2 → b < side / 2
         → value_beside shape leaves i g face (first_half face (octant_of j) * (side / 2) + a) (second_half face (octant_of j) * (side / 2) + b)
-        ≡ face_mean h (number_of (opposite_of face)) a b }
+        ≡ face_mean h (opposite_of face) a b }
 {}
 
 /// In a balanced map, leaves that share a face are at most one level apart, and each cell at a face that doesn't lie at the

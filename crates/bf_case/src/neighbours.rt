@@ -2,7 +2,6 @@
 ghost use Rattle.std.specs.Prelude.{◌≡◌, ℕ, ◌+◌, ◌-◌, ◌*◌, ◌/◌, ◌%◌, ◌^◌, ◌<◌, ◌≤◌, length, IfSome, Option};
 ghost use Rattle.std.specs.Option.{ForSome};
 ghost use Rattle.bf_id.specs.Axis.{Axis, after, before};
-ghost use Rattle.bf_face.specs.Face.{number_of};
 ghost use Rattle.bf_id.specs.Shape.{IsShape, root_count};
 ghost use Rattle.bf_cells.specs.Shell.{with_wall};
 ghost use Rattle.bf_case.specs.Around.{across, root_at, wall_from, walls_around, IsAround, IsGiven};
@@ -122,13 +121,13 @@ fn lay_wall<L: RootCells>(
 )
     requires own { IsGiven (L.has leaves.now) (L.grid_of leaves.now) shell.old.side root }
     requires near { ForSome across (IsGiven (L.has leaves.now) (L.grid_of leaves.now) shell.old.side) }
-    ensures wall { shell.new ≡ with_wall shell.old (number_of face) (wall_from (L.grid_of leaves.now) root across face) }
+    ensures wall { shell.new ≡ with_wall shell.old face (wall_from (L.grid_of leaves.now) root across face) }
     ensures side { shell.new.side ≡ shell.old.side }
 {
     match across {
-        None => shell.set_wall(face.number(), leaves.cells(root), face.number()),
+        None => shell.set_wall(face, leaves.cells(root), face),
         Some(other) => {
-            shell.set_wall(face.number(), leaves.cells(other), face.opposite().number());
+            shell.set_wall(face, leaves.cells(other), face.opposite());
         }
     }
 }
@@ -141,46 +140,7 @@ pub fn surround<L: RootCells>(shell: &mut Shell, shape: Shape, leaves: &L, root:
     ensures walls { shell.new ≡ walls_around shape shell.old.side (L.grid_of leaves.now) root }
     ensures side { shell.new.side ≡ shell.old.side }
 {
-    lay_wall(
-        shell,
-        Face::XLow,
-        leaves,
-        root,
-        across(shape, root, Face::XLow),
-    );
-    lay_wall(
-        shell,
-        Face::XHigh,
-        leaves,
-        root,
-        across(shape, root, Face::XHigh),
-    );
-    lay_wall(
-        shell,
-        Face::YLow,
-        leaves,
-        root,
-        across(shape, root, Face::YLow),
-    );
-    lay_wall(
-        shell,
-        Face::YHigh,
-        leaves,
-        root,
-        across(shape, root, Face::YHigh),
-    );
-    lay_wall(
-        shell,
-        Face::ZLow,
-        leaves,
-        root,
-        across(shape, root, Face::ZLow),
-    );
-    lay_wall(
-        shell,
-        Face::ZHigh,
-        leaves,
-        root,
-        across(shape, root, Face::ZHigh),
-    );
+    for face in Face::ALL {
+        lay_wall(shell, face, leaves, root, across(shape, root, face));
+    }
 }

@@ -47,14 +47,6 @@ same_tables s f g same =
     let whole : P t.side = table_is t g (rw side-table (length-table s f)) in
     subst P (side-table s f) whole (λ x y z hx hy hz. cell_at-table s f x y z hx hy hz ∙ same x y z hx hy hz)
 
--- full grids of one side with equal cells are equal
-pub same_grids : (g h : Grid) → g.side ≡ h.side
-    → length g.values ≡ g.side * g.side * g.side → length h.values ≡ h.side * h.side * h.side
-    → ((x y z : ℕ) → x < g.side → y < g.side → z < g.side → cell_at g x y z ≡ cell_at h x y z) → g ≡ h
-same_grids g h sides full full' same =
-    table_is g (cell_at h) full same ∙ ap (λ n. table n (cell_at h)) sides
-    ∙ sym (table_is h (cell_at h) full' (λ x y z hx hy hz. refl))
-
 -- a table of small values is a grid
 pub IsGrid-table : (s : ℕ) (f : ℕ → ℕ → ℕ → ℕ) → s % 2 ≡ 0 → 2 ≤ s → s ≤ 16
     → ((x y z : ℕ) → x < s → y < s → z < s → f x y z < 2 ^ 32) → IsGrid (table s f)

@@ -1,21 +1,13 @@
 -- The cells of a grid after a step.
 use Rattle.std.proofs.Common.{◌≡◌, ℕ, ◌+◌, ◌-◌, ◌*◌, ◌/◌, ◌%◌, ◌^◌, ◌<◌, arith, ap, ◌∙◌, length, get_or, List, eqb}
 use Rattle.bf_cells.specs.Grid.{Grid, IsGrid, place, cell_at, table}
+use Rattle.bf_face.specs.declared.face.Face.TheVariants.{XLow, XHigh, YLow, YHigh, ZLow, ZHigh}
 use Rattle.bf_cells.specs.Shell.{Walls, IsShell}
 use Rattle.bf_cells.specs.Kernel.{relaxed, relaxed_cell, relaxed_grid}
 use Rattle.bf_cells.specs.Rows.{cube_cell, piece_at}
 use Rattle.bf_cells.proofs.PlaceLemmas.{place_by_squares, row_place_below, row_place-mod, row_place-div}
-use Rattle.bf_cells.proofs.GridLemmas.{cell_at-table, side-table, table_is, cell_small, cond_small, IsGrid-table}
+use Rattle.bf_cells.proofs.GridLemmas.{table_is, cell_small, cond_small, IsGrid-table}
 use Rattle.bf_cells.proofs.WallLemmas.{wall_small}
-
-pub side-relaxed_grid : (g : Grid) (w : Walls) → (relaxed_grid g w).side ≡ g.side
-unfolding relaxed_grid
-side-relaxed_grid g w = side-table g.side (relaxed_cell g w)
-
-pub cell_at-relaxed_grid : (g : Grid) (w : Walls) (x y z : ℕ) → x < g.side → y < g.side → z < g.side
-    → cell_at (relaxed_grid g w) x y z ≡ relaxed_cell g w x y z
-unfolding relaxed_grid
-cell_at-relaxed_grid g w x y z hx hy hz = cell_at-table g.side (relaxed_cell g w) x y z hx hy hz
 
 -- a full grid whose cells are those after a step
 pub relaxed_grid_is : (g : Grid) (w : Walls) (h : Grid) → h.side ≡ g.side → length h.values ≡ h.side * h.side * h.side
@@ -51,12 +43,12 @@ pub relaxed_cell_small : (g : Grid) (w : Walls) → IsGrid g → IsShell w → (
 relaxed_cell_small g w valid full x y z =
     let near = cell_small g valid in
     relaxed_small _ _ _ _ _ _ _ (near x y z)
-    (cond_small (eqb x 0) _ _ (wall_small w.side w.x_low full.x_low_full (y + g.side * z)) (near (x - 1) y z))
-    (cond_small (eqb (x + 1) g.side) _ _ (wall_small w.side w.x_high full.x_high_full (y + g.side * z)) (near (x + 1) y z))
-    (cond_small (eqb y 0) _ _ (wall_small w.side w.y_low full.y_low_full (x + g.side * z)) (near x (y - 1) z))
-    (cond_small (eqb (y + 1) g.side) _ _ (wall_small w.side w.y_high full.y_high_full (x + g.side * z)) (near x (y + 1) z))
-    (cond_small (eqb z 0) _ _ (wall_small w.side w.z_low full.z_low_full (x + g.side * y)) (near x y (z - 1)))
-    (cond_small (eqb (z + 1) g.side) _ _ (wall_small w.side w.z_high full.z_high_full (x + g.side * y)) (near x y (z + 1)))
+    (cond_small (eqb x 0) _ _ (wall_small w.side w.x_low (full.full XLow) (y + g.side * z)) (near (x - 1) y z))
+    (cond_small (eqb (x + 1) g.side) _ _ (wall_small w.side w.x_high (full.full XHigh) (y + g.side * z)) (near (x + 1) y z))
+    (cond_small (eqb y 0) _ _ (wall_small w.side w.y_low (full.full YLow) (x + g.side * z)) (near x (y - 1) z))
+    (cond_small (eqb (y + 1) g.side) _ _ (wall_small w.side w.y_high (full.full YHigh) (x + g.side * z)) (near x (y + 1) z))
+    (cond_small (eqb z 0) _ _ (wall_small w.side w.z_low (full.full ZLow) (x + g.side * y)) (near x y (z - 1)))
+    (cond_small (eqb (z + 1) g.side) _ _ (wall_small w.side w.z_high (full.full ZHigh) (x + g.side * y)) (near x y (z + 1)))
 
 -- a grid is a grid after a step
 pub IsGrid-relaxed_grid : (g : Grid) (w : Walls) → IsGrid g → IsShell w → IsGrid (relaxed_grid g w)

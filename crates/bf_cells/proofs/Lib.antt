@@ -1,6 +1,7 @@
 pub mod PlaceLemmas
 pub mod GridLemmas
 pub mod WallLemmas
+pub mod ShellLemmas
 pub mod KernelLemmas
 pub mod RowLemmas
 pub mod PlaneLemmas

@@ -208,7 +208,7 @@ octant_mean_by_lists g octant into side x0 y0 z0 from old values es ei ef eo ex 
     let target : grid_with side old ≡ into = ap (λ s. grid_with s old) (sym ei) ∙ ap (grid_with into.side) eo in
     made ∙ ap (λ h. with_octant_mean h octant (grid_with side old)) source ∙ ap (with_octant_mean g octant) target
 
-eighth_small : (a b c d e f g h : ℕ) → a < 2 ^ 32 → b < 2 ^ 32 → c < 2 ^ 32 → d < 2 ^ 32 → e < 2 ^ 32 → f < 2 ^ 32 → g < 2 ^ 32
+pub eighth_small : (a b c d e f g h : ℕ) → a < 2 ^ 32 → b < 2 ^ 32 → c < 2 ^ 32 → d < 2 ^ 32 → e < 2 ^ 32 → f < 2 ^ 32 → g < 2 ^ 32
     → h < 2 ^ 32 → (a + b + c + d + e + f + g + h) / 8 < 2 ^ 32
 eighth_small a b c d e f g h ha hb hc hd he hf hg hh = omega arith
 

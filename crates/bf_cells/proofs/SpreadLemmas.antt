@@ -1,7 +1,7 @@
 -- The greatest and the least value of a list.
 use Rattle.std.proofs.Common.{◌≡◌, ℕ, ◌<◌, ◌≤◌, arith, ap, List, [], ◌∷◌, length, get_or, max, min}
 use Rattle.std.specs.List.{fold}
-use Rattle.bf_cells.specs.Grid.{greatest_of, least_of}
+use Rattle.bf_cells.specs.Grid.{least_of}
 
 -- a running minimum only falls, a running maximum only rises
 pub fold-min_le : (a : ℕ) (xs : List ℕ) → fold min a xs ≤ a
@@ -11,14 +11,6 @@ fold-min_le a (x ∷ xs) = let rest : fold min (min a x) xs ≤ min a x = fold-m
 pub fold-max_ge : (a : ℕ) (xs : List ℕ) → a ≤ fold max a xs
 fold-max_ge a [] = omega arith
 fold-max_ge a (x ∷ xs) = let rest : max a x ≤ fold max (max a x) xs = fold-max_ge (max a x) xs in omega arith
-
--- the least is at most the greatest
-pub least_le_greatest : (xs : List ℕ) → least_of xs ≤ greatest_of xs
-least_le_greatest [] = omega arith
-least_le_greatest (x ∷ xs) =
-    let below : fold min x xs ≤ x = fold-min_le x xs in
-    let above : max 0 x ≤ fold max (max 0 x) xs = fold-max_ge (max 0 x) xs in
-    omega arith
 
 -- a minimum that begins with the first element
 pub least_from_first : (xs : List ℕ) → 0 < length xs → fold min (get_or xs 0 0) xs ≡ least_of xs

@@ -1,73 +1,102 @@
--- Walls by the number of their face, and a grid's own cells on a face.
-use Rattle.std.proofs.Common.{◌≡◌, ◌≢◌, ℕ, ◌+◌, ◌-◌, ◌*◌, ◌/◌, ◌%◌, ◌^◌, ◌<◌, arith, ap, sym, ◌∙◌, zero-add, subst, List, length, get_or, set, lit<, inl, inr}
+-- Walls by their face, and a grid's own cells on a face.
+use Rattle.std.proofs.Common.{◌≡◌, ◌≢◌, ℕ, ◌+◌, ◌-◌, ◌*◌, ◌/◌, ◌%◌, ◌^◌, ◌<◌, ◌≤◌, arith, ap, refl, sym, ◌∙◌, zero-add, subst, List, length, get_or, replicate, set, lit<, inl, inr}
 use Rattle.std.proofs.lemmas.List.FromFn.{length-map-range_with_len, get_or-map-range_with_len, fill_by_all}
-use Rattle.std.proofs.lemmas.List.{get_or_past, get_or-set_same, get_or-set_other}
-use Rattle.std.proofs.lemmas.List.Elements.{All-from_get_or}
-use Rattle.std.proofs.lemmas.Bool.{cases_lt, cases_eq}
-use Rattle.std.proofs.lemmas.Bool.Decides.{nat_tests}
+use Rattle.std.proofs.lemmas.List.{get_or_past, length-replicate, length-set}
+use Rattle.std.proofs.lemmas.List.Elements.{All-from_get_or, All-replicate, All-set}
+use Rattle.std.proofs.lemmas.Bool.{cases_lt}
+use Rattle.bf_face.specs.declared.face.Face.{Face}
+use Rattle.bf_face.specs.declared.face.Face.TheVariants.{XLow, XHigh, YLow, YHigh, ZLow, ZHigh}
 use Rattle.bf_cells.specs.Grid.{Grid, IsGrid, grid_with}
-use Rattle.bf_cells.specs.Shell.{Walls, IsWall, IsShell, wall_of, with_wall, wall_place, wall_at, with_value, face_cell, face_values, square}
+use Rattle.bf_cells.specs.Shell.{Walls, IsWall, IsShell, wall_of, with_wall, wall_place, blank_walls, face_cell, face_values, square}
 use Rattle.bf_cells.proofs.PlaceLemmas.{row_place_below, row_place-mod, row_place-div, row_of_place}
 use Rattle.bf_cells.proofs.GridLemmas.{cell_small}
 
 -- the square of a face after it was replaced
-pub wall_of-with_wall_same : (w : Walls) (n : ℕ) (wall : List ℕ) → wall_of (with_wall w n wall) n ≡ wall
-unfolding wall_of with_wall
-wall_of-with_wall_same w n wall = grind (arith, nat_tests)
+pub wall_of-with_wall_same : (w : Walls) (face : Face) (wall : List ℕ) → wall_of (with_wall w face wall) face ≡ wall
+wall_of-with_wall_same w XLow wall = refl
+wall_of-with_wall_same w XHigh wall = refl
+wall_of-with_wall_same w YLow wall = refl
+wall_of-with_wall_same w YHigh wall = refl
+wall_of-with_wall_same w ZLow wall = refl
+wall_of-with_wall_same w ZHigh wall = refl
 
 -- the square of another face
-pub wall_of-with_wall_other : (w : Walls) (n m : ℕ) (wall : List ℕ) → n < 6 → m < 6 → m ≢ n
-    → wall_of (with_wall w n wall) m ≡ wall_of w m
-unfolding wall_of with_wall
-wall_of-with_wall_other w n m wall hn hm apart = grind (arith, nat_tests)
+pub wall_of-with_wall_other : (w : Walls) (face other : Face) (wall : List ℕ) → other ≢ face
+    → wall_of (with_wall w face wall) other ≡ wall_of w other
+wall_of-with_wall_other w XLow XLow wall apart = absurd (apart refl)
+wall_of-with_wall_other w XHigh XHigh wall apart = absurd (apart refl)
+wall_of-with_wall_other w YLow YLow wall apart = absurd (apart refl)
+wall_of-with_wall_other w YHigh YHigh wall apart = absurd (apart refl)
+wall_of-with_wall_other w ZLow ZLow wall apart = absurd (apart refl)
+wall_of-with_wall_other w ZHigh ZHigh wall apart = absurd (apart refl)
+wall_of-with_wall_other w face other wall apart = refl
 
-pub side-with_wall : (w : Walls) (n : ℕ) (wall : List ℕ) → (with_wall w n wall).side ≡ w.side
-unfolding with_wall
-side-with_wall w n wall = grind (arith, nat_tests)
+pub side-with_wall : (w : Walls) (face : Face) (wall : List ℕ) → (with_wall w face wall).side ≡ w.side
+side-with_wall w XLow wall = refl
+side-with_wall w XHigh wall = refl
+side-with_wall w YLow wall = refl
+side-with_wall w YHigh wall = refl
+side-with_wall w ZLow wall = refl
+side-with_wall w ZHigh wall = refl
+
+-- walls of one side whose squares are the same are the same
+pub same_walls : (w v : Walls) → w.side ≡ v.side → ((face : Face) → wall_of w face ≡ wall_of v face) → w ≡ v
+same_walls w v side walls =
+    ap (λ s. record w { side = s }) side
+    ∙ ap (λ l. record w { side = v.side; x_low = l }) (walls XLow)
+    ∙ ap (λ l. record w { side = v.side; x_low = v.x_low; x_high = l }) (walls XHigh)
+    ∙ ap (λ l. record v { y_low = l; y_high = w.y_high; z_low = w.z_low; z_high = w.z_high }) (walls YLow)
+    ∙ ap (λ l. record v { y_high = l; z_low = w.z_low; z_high = w.z_high }) (walls YHigh)
+    ∙ ap (λ l. record v { z_low = l; z_high = w.z_high }) (walls ZLow)
+    ∙ ap (λ l. record v { z_high = l }) (walls ZHigh)
+
+-- what holds of a square that is laid, and of each square before, holds of each square after
+of_each_wall : (P : List ℕ → Type 0) (w : Walls) (face : Face) (wall : List ℕ) → P wall → ((other : Face) → P (wall_of w other))
+    → (other : Face) → P (wall_of (with_wall w face wall) other)
+of_each_wall P w XLow wall new old XLow = new
+of_each_wall P w XHigh wall new old XHigh = new
+of_each_wall P w YLow wall new old YLow = new
+of_each_wall P w YHigh wall new old YHigh = new
+of_each_wall P w ZLow wall new old ZLow = new
+of_each_wall P w ZHigh wall new old ZHigh = new
+of_each_wall P w face wall new old other = old other
 
 -- a square in the place of another leaves walls that are full
-pub IsShell-with_wall : (w : Walls) (n : ℕ) (wall : List ℕ) → IsShell w → IsWall w.side wall → IsShell (with_wall w n wall)
-unfolding with_wall
-IsShell-with_wall w n wall valid full = grind (arith, nat_tests)
+pub IsShell-with_wall : (w : Walls) (face : Face) (wall : List ℕ) → IsShell w → IsWall w.side wall → IsShell (with_wall w face wall)
+IsShell-with_wall w face wall valid full =
+    let side = side-with_wall w face wall in record {
+      even = rw side valid.even;
+      low = rw side valid.low;
+      high = rw side valid.high;
+      full = subst (λ s. (other : Face) → IsWall s (wall_of (with_wall w face wall) other)) (sym side) (of_each_wall (IsWall w.side) w face wall full valid.full);
+    }
 
--- each square of full walls is full
-pub IsWall-wall_of : (w : Walls) (n : ℕ) → IsShell w → IsWall w.side (wall_of w n)
-unfolding wall_of
-IsWall-wall_of w n valid = grind (arith, nat_tests)
+-- a full square with another value
+pub IsWall-set : (side : ℕ) (wall : List ℕ) (at value : ℕ) → IsWall side wall → value < 2 ^ 32 → IsWall side (set wall at value)
+IsWall-set side wall at value valid small = record {
+  full = length-set wall at value ∙ valid.full;
+  small = All-set (λ v. v < 2 ^ 32) wall at value small valid.small;
+}
 
--- the value next to a face's cell, after it was replaced
-pub wall_at-with_value_same : (w : Walls) (n a b v : ℕ) → IsShell w → a < w.side → b < w.side
-    → wall_at (with_value w n a b v) n a b ≡ v
-wall_at-with_value_same w n a b v valid ha hb =
-    let old = wall_of w n in
-    let at = wall_place w.side a b in
-    let full : length old ≡ w.side * w.side = (IsWall-wall_of w n valid).full in
-    let within : at < length old = omega (arith, row_place_below w.side w.side a b ha hb) in
-    ap (λ s. get_or (wall_of (with_value w n a b v) n) (wall_place s a b) 0) (side-with_wall w n (set old at v))
-    ∙ ap (λ l. get_or l at 0) (wall_of-with_wall_same w n (set old at v))
-    ∙ get_or-set_same old at v 0 within
+-- walls of zeros
+wall_of-blank : (side : ℕ) (face : Face) → wall_of (blank_walls side) face ≡ replicate (side * side) 0
+wall_of-blank side XLow = refl
+wall_of-blank side XHigh = refl
+wall_of-blank side YLow = refl
+wall_of-blank side YHigh = refl
+wall_of-blank side ZLow = refl
+wall_of-blank side ZHigh = refl
 
--- and every other value
-pub wall_at-with_value_other : (w : Walls) (n a b v m c d : ℕ) → n < 6 → m < 6 → a < w.side → c < w.side
-    → ((m ≡ n) → (c ≡ a) → d ≢ b) → wall_at (with_value w n a b v) m c d ≡ wall_at w m c d
-wall_at-with_value_other w n a b v m c d hn hm ha hc apart =
-    let old = wall_of w n in
-    let at = wall_place w.side a b in
-    let place : wall_at (with_value w n a b v) m c d ≡ get_or (wall_of (with_value w n a b v) m) (wall_place w.side c d) 0 =
-    ap (λ s. get_or (wall_of (with_value w n a b v) m) (wall_place s c d) 0) (side-with_wall w n (set old at v)) in
-    elim (cases_eq m n) [
-      | inl same ↦
-          let elsewhere : wall_place w.side c d ≢ at = λ e.
-          let row : c ≡ a = sym (row_place-mod w.side c d hc) ∙ ap (λ k. k % w.side) e ∙ row_place-mod w.side a b ha in
-          let column : d ≡ b = sym (row_place-div w.side c d hc) ∙ ap (λ k. k / w.side) e ∙ row_place-div w.side a b ha in
-          apart same row column in
-          place ∙ ap (λ k. get_or (wall_of (with_value w n a b v) k) (wall_place w.side c d) 0) same
-          ∙ ap (λ l. get_or l (wall_place w.side c d) 0) (wall_of-with_wall_same w n (set old at v))
-          ∙ get_or-set_other old at (wall_place w.side c d) v 0 elsewhere
-          ∙ ap (λ k. wall_at w k c d) (sym same)
-      | inr other ↦
-          place ∙ ap (λ l. get_or l (wall_place w.side c d) 0) (wall_of-with_wall_other w n m (set old at v) hn hm other)
-    ]
+pub IsShell-blank : (side : ℕ) → side % 2 ≡ 0 → 2 ≤ side → side ≤ 16 → IsShell (blank_walls side)
+IsShell-blank side even low high = record {
+  even = even;
+  low = low;
+  high = high;
+  full = λ face. subst (IsWall side) (sym (wall_of-blank side face)) (record {
+    full = length-replicate (side * side) 0;
+    small = All-replicate (λ v. v < 2 ^ 32) (side * side) 0 (lit< tt);
+  });
+}
 
 -- a square that is made of a function
 pub length-square : (s : ℕ) (f : ℕ → ℕ → ℕ) → length (square s f) ≡ s * s
@@ -98,29 +127,23 @@ IsWall-square s f small = record {
 }
 
 -- a grid's own cells on a face
-pub get_or-face_values : (g : Grid) (n a b : ℕ) → a < g.side → b < g.side
-    → get_or (face_values g n) (wall_place g.side a b) 0 ≡ face_cell g n a b
+pub get_or-face_values : (g : Grid) (face : Face) (a b : ℕ) → a < g.side → b < g.side
+    → get_or (face_values g face) (wall_place g.side a b) 0 ≡ face_cell g face a b
 unfolding face_values
-get_or-face_values g n a b ha hb = get_or-square g.side (face_cell g n) a b ha hb
+get_or-face_values g face a b ha hb = get_or-square g.side (face_cell g face) a b ha hb
 
-pub face_cell_small : (g : Grid) → IsGrid g → (n a b : ℕ) → face_cell g n a b < 2 ^ 32
+pub face_cell_small : (g : Grid) → IsGrid g → (face : Face) (a b : ℕ) → face_cell g face a b < 2 ^ 32
 unfolding face_cell
-face_cell_small g valid n a b =
-    let low = cell_small g valid in
-    grind (
-      arith,
-      nat_tests,
-      cell_small g valid 0 a b,
-      cell_small g valid (g.side - 1) a b,
-      cell_small g valid a 0 b,
-      cell_small g valid a (g.side - 1) b,
-      cell_small g valid a b 0,
-      cell_small g valid a b (g.side - 1),
-    )
+face_cell_small g valid XLow a b = cell_small g valid 0 a b
+face_cell_small g valid XHigh a b = cell_small g valid (g.side - 1) a b
+face_cell_small g valid YLow a b = cell_small g valid a 0 b
+face_cell_small g valid YHigh a b = cell_small g valid a (g.side - 1) b
+face_cell_small g valid ZLow a b = cell_small g valid a b 0
+face_cell_small g valid ZHigh a b = cell_small g valid a b (g.side - 1)
 
-pub IsWall-face_values : (g : Grid) (n : ℕ) → IsGrid g → IsWall g.side (face_values g n)
+pub IsWall-face_values : (g : Grid) (face : Face) → IsGrid g → IsWall g.side (face_values g face)
 unfolding face_values
-IsWall-face_values g n valid = IsWall-square g.side (face_cell g n) (face_cell_small g valid n)
+IsWall-face_values g face valid = IsWall-square g.side (face_cell g face) (face_cell_small g valid face)
 
 -- each value of a full square has 32 bits; past the end it counts as 0
 pub wall_small : (side : ℕ) (wall : List ℕ) → IsWall side wall → (k : ℕ) → get_or wall k 0 < 2 ^ 32
@@ -131,31 +154,11 @@ wall_small side wall valid k =
     ]
 
 -- a square that holds the cells of a face
-pub face_values_is : (g : Grid) (n : ℕ) (wall : List ℕ) → length wall ≡ g.side * g.side
-    → ((a b : ℕ) → a < g.side → b < g.side → get_or wall (a + g.side * b) 0 ≡ face_cell g n a b) → wall ≡ face_values g n
+pub face_values_is : (g : Grid) (face : Face) (wall : List ℕ) → length wall ≡ g.side * g.side
+    → ((a b : ℕ) → a < g.side → b < g.side → get_or wall (a + g.side * b) 0 ≡ face_cell g face a b) → wall ≡ face_values g face
 unfolding face_values
-face_values_is g n wall full cells = square_is g.side (face_cell g n) wall full cells
-
--- a square that was laid in walls that were full
-pub record IsLaid (old new : Walls) (n : ℕ) (wall : List ℕ) : Type 0 where
-  pub is : new ≡ with_wall old n wall
-  pub full : IsShell new
-
-pub laid : (old : Walls) (n : ℕ) (wall : List ℕ) (with : List ℕ → Walls) (items : List ℕ) → ((l : List ℕ) → with l ≡ with_wall old n l)
-    → IsShell old → IsWall old.side wall → items ≡ wall → IsLaid old (with items) n wall
-laid old n wall with items is valid full same =
-    let whole : with items ≡ with_wall old n wall = ap with same ∙ is wall in
-    record { is = whole; full = subst IsShell (sym whole) (IsShell-with_wall old n wall valid full) }
+face_values_is g face wall full cells = square_is g.side (face_cell g face) wall full cells
 
 -- a grid by the numbers that were read
 pub read_grid : (g : Grid) (side of : ℕ) (values : List ℕ) → g.side ≡ of → side ≡ of → values ≡ g.values → grid_with side values ≡ g
 read_grid g side of values sides side_is values_are = ap (λ s. grid_with s values) (side_is ∙ sym sides) ∙ ap (grid_with g.side) values_are
-
--- a square that was copied from a grid's face
-pub faced : (old : Walls) (n : ℕ) (g : Grid) (face : ℕ) (with : List ℕ → Walls) (side : ℕ) (values written items : List ℕ)
-    → ((wall : List ℕ) → with wall ≡ with_wall old n wall)
-    → IsShell old → IsGrid g → g.side ≡ old.side → side ≡ old.side → values ≡ g.values
-    → written ≡ face_values (grid_with side values) face → items ≡ written → IsLaid old (with items) n (face_values g face)
-faced old n g face with side values written items is valid grid sides side_is values_are copied kept =
-    laid old n (face_values g face) with items is valid (subst (λ s. IsWall s (face_values g face)) sides (IsWall-face_values g face grid))
-    (kept ∙ copied ∙ ap (λ h. face_values h face) (read_grid g side old.side values sides side_is values_are))

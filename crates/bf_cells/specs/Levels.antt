@@ -1,23 +1,24 @@
 -- Walls between blocks that are one level apart. The halves of a face along each of its two axes are 0 and 1.
 use Rattle.std.specs.Prelude.{ℕ, ◌+◌, ◌-◌, ◌*◌, ◌/◌, ◌%◌, ◌==◌, ◌&&◌, if◌then◌else◌, Bool, List, slice_index}
+use Rattle.bf_face.specs.declared.face.Face.{Face}
+use Rattle.bf_face.specs.declared.face.Face.TheVariants.{XLow, XHigh, YLow, YHigh, ZLow, ZHigh}
 use Rattle.bf_cells.specs.Grid.{Grid}
 use Rattle.bf_cells.specs.Octant.{mean_at, is_within}
 use Rattle.bf_cells.specs.Shell.{face_cell, square, wall_place}
 
 -- a quarter of a grid's face, each cell at four places
-unfoldable pub doubled_face : Grid → ℕ → ℕ → ℕ → List ℕ
+unfoldable pub doubled_face : Grid → Face → ℕ → ℕ → List ℕ
 doubled_face g face half_a half_b =
     square g.side (λ a b. face_cell g face (half_a * (g.side / 2) + a / 2) (half_b * (g.side / 2) + b / 2))
 
 -- the mean of the eight cells that form a cube next to a grid's face, rounded down; a, b count such cubes along the face
-unfoldable pub face_mean : Grid → ℕ → ℕ → ℕ → ℕ
-face_mean g face a b =
-    if face == 0 then mean_at g 0 a b
-    else (if face == 1 then mean_at g (g.side / 2 - 1) a b
-    else (if face == 2 then mean_at g a 0 b
-    else (if face == 3 then mean_at g a (g.side / 2 - 1) b
-    else (if face == 4 then mean_at g a b 0
-    else mean_at g a b (g.side / 2 - 1)))))
+unfoldable pub face_mean : Grid → Face → ℕ → ℕ → ℕ
+face_mean g XLow a b = mean_at g 0 a b
+face_mean g XHigh a b = mean_at g (g.side / 2 - 1) a b
+face_mean g YLow a b = mean_at g a 0 b
+face_mean g YHigh a b = mean_at g a (g.side / 2 - 1) b
+face_mean g ZLow a b = mean_at g a b 0
+face_mean g ZHigh a b = mean_at g a b (g.side / 2 - 1)
 
 -- whether a place of a square with this side lies in a quarter
 abbrev pub in_quarter : ℕ → ℕ → ℕ → ℕ → ℕ → Bool

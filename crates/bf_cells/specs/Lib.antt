@@ -1,5 +1,6 @@
 pub mod Grid
 pub mod Shell
+pub mod Squares
 pub mod ShellFields
 pub mod Kernel
 pub mod Rows

@@ -2,6 +2,7 @@ ghost use Rattle.std.specs.Prelude.{◌≡◌, ℕ, ◌+◌, ◌-◌, ◌*◌, �
 ghost use Rattle.bf_cells.specs.Shell.{face_values};
 
 use crate::pieces::piece;
+use bf_face::Face;
 
 // Copies the cells of one x into a square.
 fn copy_at_x(values: &[u32], side: usize, x: usize, into: &mut [u32])
@@ -43,20 +44,19 @@ fn copy_at_z(values: &[u32], side: usize, z: usize, into: &mut [u32])
 }
 
 // Copies the cells of a face into a square.
-pub(crate) fn copy_face(values: &[u32], side: usize, face: u32, into: &mut [u32])
+pub(crate) fn copy_face(values: &[u32], side: usize, face: Face, into: &mut [u32])
     requires low { 2 ≤ side }
     requires high { side ≤ 16 }
-    requires face { face < 6 }
     requires values { length values.now ≡ side * side * side }
     requires into { length into.old ≡ side * side }
     ensures { into.new ≡ face_values (record { side = side; values = values.now }) face }
 {
     match face {
-        0 => copy_at_x(values, side, 0, into),
-        1 => copy_at_x(values, side, side - 1, into),
-        2 => copy_at_y(values, side, 0, into),
-        3 => copy_at_y(values, side, side - 1, into),
-        4 => copy_at_z(values, side, 0, into),
-        _ => copy_at_z(values, side, side - 1, into),
+        Face::XLow => copy_at_x(values, side, 0, into),
+        Face::XHigh => copy_at_x(values, side, side - 1, into),
+        Face::YLow => copy_at_y(values, side, 0, into),
+        Face::YHigh => copy_at_y(values, side, side - 1, into),
+        Face::ZLow => copy_at_z(values, side, 0, into),
+        Face::ZHigh => copy_at_z(values, side, side - 1, into),
     }
 }

@@ -7,6 +7,7 @@ ghost use Rattle.bf_cells.specs.Levels.{doubled_face, face_mean, quarter_value, 
 
 use crate::octants::{double_row, has, mean_cells, mean_of_pairs};
 use crate::pieces::piece;
+use bf_face::Face;
 
 // Cells of one x and z, from a y on, each twice.
 #[inline]
@@ -42,10 +43,9 @@ fn double_cells(values: &[u32], side: usize, x0: usize, y: usize, z: usize, into
 }
 
 // One row of a face, from its cell a0 on, each cell twice.
-fn double_face_row(values: &[u32], side: usize, face: u32, a0: usize, b: usize, into: &mut [u32])
+fn double_face_row(values: &[u32], side: usize, face: Face, a0: usize, b: usize, into: &mut [u32])
     requires even { side % 2 ≡ 0 }
     requires high { side ≤ 16 }
-    requires face { face < 6 }
     requires a_fits { a0 + side / 2 ≤ side }
     requires b_below { b < side }
     requires values { length values.now ≡ side * side * side }
@@ -53,12 +53,12 @@ fn double_face_row(values: &[u32], side: usize, face: u32, a0: usize, b: usize, 
     ensures { (k : ℕ) → k < side → slice_index into.new k ≡ face_cell (grid_with side values.now) face (a0 + k / 2) b }
 {
     match face {
-        0 => double_column(values, side, 0, a0, b, into),
-        1 => double_column(values, side, side - 1, a0, b, into),
-        2 => double_cells(values, side, a0, 0, b, into),
-        3 => double_cells(values, side, a0, side - 1, b, into),
-        4 => double_cells(values, side, a0, b, 0, into),
-        _ => double_cells(values, side, a0, b, side - 1, into),
+        Face::XLow => double_column(values, side, 0, a0, b, into),
+        Face::XHigh => double_column(values, side, side - 1, a0, b, into),
+        Face::YLow => double_cells(values, side, a0, 0, b, into),
+        Face::YHigh => double_cells(values, side, a0, side - 1, b, into),
+        Face::ZLow => double_cells(values, side, a0, b, 0, into),
+        Face::ZHigh => double_cells(values, side, a0, b, side - 1, into),
     }
 }
 
@@ -66,14 +66,13 @@ fn double_face_row(values: &[u32], side: usize, face: u32, a0: usize, b: usize, 
 pub(crate) fn double_face(
     values: &[u32],
     side: usize,
-    face: u32,
+    face: Face,
     half_a: usize,
     half_b: usize,
     into: &mut [u32],
 )
     requires even { side % 2 ≡ 0 }
     requires high { side ≤ 16 }
-    requires face { face < 6 }
     requires half_a { half_a < 2 }
     requires half_b { half_b < 2 }
     requires values { length values.now ≡ side * side * side }
@@ -131,10 +130,9 @@ fn mean_column(values: &[u32], side: usize, x: usize, z: usize, into: &mut [u32]
 }
 
 // A row of the means next to a face.
-fn mean_face_row(values: &[u32], side: usize, face: u32, b: usize, into: &mut [u32])
+fn mean_face_row(values: &[u32], side: usize, face: Face, b: usize, into: &mut [u32])
     requires even { side % 2 ≡ 0 }
     requires high { side ≤ 16 }
-    requires face { face < 6 }
     requires b_below { b < side / 2 }
     requires values { length values.now ≡ side * side * side }
     requires into { length into.old ≡ side / 2 }
@@ -142,12 +140,12 @@ fn mean_face_row(values: &[u32], side: usize, face: u32, b: usize, into: &mut [u
 {
     let last = side / 2 - 1;
     match face {
-        0 => mean_column(values, side, 0, b, into),
-        1 => mean_column(values, side, last, b, into),
-        2 => mean_cells(values, side, 0, b, into),
-        3 => mean_cells(values, side, last, b, into),
-        4 => mean_cells(values, side, b, 0, into),
-        _ => mean_cells(values, side, b, last, into),
+        Face::XLow => mean_column(values, side, 0, b, into),
+        Face::XHigh => mean_column(values, side, last, b, into),
+        Face::YLow => mean_cells(values, side, 0, b, into),
+        Face::YHigh => mean_cells(values, side, last, b, into),
+        Face::ZLow => mean_cells(values, side, b, 0, into),
+        Face::ZHigh => mean_cells(values, side, b, last, into),
     }
 }
 
@@ -155,7 +153,7 @@ fn mean_face_row(values: &[u32], side: usize, face: u32, b: usize, into: &mut [u
 fn mean_quarter_row(
     values: &[u32],
     side: usize,
-    face: u32,
+    face: Face,
     a0: usize,
     b0: usize,
     b: usize,
@@ -163,7 +161,6 @@ fn mean_quarter_row(
 )
     requires even { side % 2 ≡ 0 }
     requires high { side ≤ 16 }
-    requires face { face < 6 }
     requires a_fits { a0 + side / 2 ≤ side }
     requires b_fits { b0 + side / 2 ≤ side }
     requires values { length values.now ≡ side * side * side }
@@ -181,7 +178,7 @@ fn mean_quarter_row(
 pub(crate) fn mean_quarter(
     values: &[u32],
     side: usize,
-    face: u32,
+    face: Face,
     half_a: usize,
     half_b: usize,
     into: &mut [u32],
@@ -189,7 +186,6 @@ pub(crate) fn mean_quarter(
     requires even { side % 2 ≡ 0 }
     requires low { 2 ≤ side }
     requires high { side ≤ 16 }
-    requires face { face < 6 }
     requires half_a { half_a < 2 }
     requires half_b { half_b < 2 }
     requires values { length values.now ≡ side * side * side }

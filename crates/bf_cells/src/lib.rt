@@ -15,6 +15,7 @@ mod places;
 mod planes;
 mod rows;
 mod shell;
+mod squares;
 
 pub use cells::Cells;
 pub use shell::Shell;

@@ -8,21 +8,16 @@ use crate::cubes::Cube;
 use crate::faces::copy_face;
 use crate::levels::{double_face, mean_quarter};
 use crate::places::square_place;
+use crate::squares::Squares;
+use bf_face::Face;
 use std::alloc::Global;
 use std::marker::Model;
 
 /// What surrounds a cube of cells: one square of values for each face.
-///
-/// The faces are counted x low, x high, y low, y high, z low, z high.
 #[derive(Debug, Drop)]
 pub struct Shell {
     side: u32,
-    x_low: Vec<u32>,
-    x_high: Vec<u32>,
-    y_low: Vec<u32>,
-    y_high: Vec<u32>,
-    z_low: Vec<u32>,
-    z_high: Vec<u32>,
+    squares: Squares,
 }
 
 impl Model for Shell {
@@ -48,12 +43,14 @@ impl Shell {
         let count = (side * side) as usize;
         Ok(Shell {
             side,
-            x_low: vec![in alloc; 0u32; count]?,
-            x_high: vec![in alloc; 0u32; count]?,
-            y_low: vec![in alloc; 0u32; count]?,
-            y_high: vec![in alloc; 0u32; count]?,
-            z_low: vec![in alloc; 0u32; count]?,
-            z_high: vec![in alloc; 0u32; count]?,
+            squares: Squares {
+                x_low: vec![in alloc; 0u32; count]?,
+                x_high: vec![in alloc; 0u32; count]?,
+                y_low: vec![in alloc; 0u32; count]?,
+                y_high: vec![in alloc; 0u32; count]?,
+                z_low: vec![in alloc; 0u32; count]?,
+                z_high: vec![in alloc; 0u32; count]?,
+            },
         })
     }
 
@@ -66,56 +63,37 @@ impl Shell {
     }
 
     /// Gives another value to the place next to a face's cell, by the cell's two other coordinates in the order x, y, z.
-    pub fn put(&mut self, face: u32, a: u32, b: u32, value: u32)
-        requires face { face < 6 }
+    pub fn put(&mut self, face: Face, a: u32, b: u32, value: u32)
         requires a_below { a < self.old.side }
         requires b_below { b < self.old.side }
         ensures values { self.new ≡ with_value self.old face a b value }
         ensures side { self.new.side ≡ self.old.side }
     {
         let at = square_place(self.side, a, b);
-        match face {
-            0 => self.x_low[at] = value,
-            1 => self.x_high[at] = value,
-            2 => self.y_low[at] = value,
-            3 => self.y_high[at] = value,
-            4 => self.z_low[at] = value,
-            _ => self.z_high[at] = value,
-        }
+        self.squares.square_mut(face)[at] = value;
     }
 
     /// Makes the square of a face hold the cells' own values on one of their faces, in the same order.
-    pub fn set_wall(&mut self, face: u32, cells: &Cells, of_face: u32)
-        requires face { face < 6 }
-        requires of_face { of_face < 6 }
+    pub fn set_wall(&mut self, face: Face, cells: &Cells, of_face: Face)
         requires sides { cells.now.side ≡ self.old.side }
         ensures values { self.new ≡ with_wall self.old face (face_values cells.now of_face) }
         ensures side { self.new.side ≡ self.old.side }
     {
         let side = self.side as usize;
-        let values = cells.values();
-        match face {
-            0 => copy_face(values, side, of_face, self.x_low.as_mut_slice()),
-            1 => copy_face(values, side, of_face, self.x_high.as_mut_slice()),
-            2 => copy_face(values, side, of_face, self.y_low.as_mut_slice()),
-            3 => copy_face(values, side, of_face, self.y_high.as_mut_slice()),
-            4 => copy_face(values, side, of_face, self.z_low.as_mut_slice()),
-            _ => copy_face(values, side, of_face, self.z_high.as_mut_slice()),
-        }
+        let square = self.squares.square_mut(face);
+        copy_face(cells.values(), side, of_face, square);
     }
 
     /// Makes the square of a face hold a quarter of a face of cells one level coarser, each value at four places. The quarter is
     /// told by its half along each of the face's two axes, in the order x, y, z: 0 is the low one, and 1 the high one.
     pub fn set_wall_doubled(
         &mut self,
-        face: u32,
+        face: Face,
         cells: &Cells,
-        of_face: u32,
+        of_face: Face,
         half_a: u32,
         half_b: u32,
     )
-        requires face { face < 6 }
-        requires of_face { of_face < 6 }
         requires half_a { half_a < 2 }
         requires half_b { half_b < 2 }
         requires sides { cells.now.side ≡ self.old.side }
@@ -123,50 +101,34 @@ impl Shell {
         ensures side { self.new.side ≡ self.old.side }
     {
         let side = self.side as usize;
-        let values = cells.values();
         let a = half_a as usize;
         let b = half_b as usize;
-        match face {
-            0 => double_face(values, side, of_face, a, b, self.x_low.as_mut_slice()),
-            1 => double_face(values, side, of_face, a, b, self.x_high.as_mut_slice()),
-            2 => double_face(values, side, of_face, a, b, self.y_low.as_mut_slice()),
-            3 => double_face(values, side, of_face, a, b, self.y_high.as_mut_slice()),
-            4 => double_face(values, side, of_face, a, b, self.z_low.as_mut_slice()),
-            _ => double_face(values, side, of_face, a, b, self.z_high.as_mut_slice()),
-        }
+        let square = self.squares.square_mut(face);
+        double_face(cells.values(), side, of_face, a, b, square);
     }
 
     /// Writes into a quarter of a face's square the means, rounded down, of each eight cells that form a cube next to a face of
     /// cells one level finer. The quarter is told by its halves, as in [`Shell::set_wall_doubled`].
     pub fn set_quarter_means(
         &mut self,
-        face: u32,
+        face: Face,
         half_a: u32,
         half_b: u32,
         cells: &Cells,
-        of_face: u32,
+        of_face: Face,
     )
-        requires face { face < 6 }
         requires half_a { half_a < 2 }
         requires half_b { half_b < 2 }
-        requires of_face { of_face < 6 }
         requires sides { cells.now.side ≡ self.old.side }
         ensures values { self.new
             ≡ with_wall self.old face (with_quarter self.old.side half_a half_b (face_mean cells.now of_face) (wall_of self.old face)) }
         ensures side { self.new.side ≡ self.old.side }
     {
         let side = self.side as usize;
-        let values = cells.values();
         let a = half_a as usize;
         let b = half_b as usize;
-        match face {
-            0 => mean_quarter(values, side, of_face, a, b, self.x_low.as_mut_slice()),
-            1 => mean_quarter(values, side, of_face, a, b, self.x_high.as_mut_slice()),
-            2 => mean_quarter(values, side, of_face, a, b, self.y_low.as_mut_slice()),
-            3 => mean_quarter(values, side, of_face, a, b, self.y_high.as_mut_slice()),
-            4 => mean_quarter(values, side, of_face, a, b, self.z_low.as_mut_slice()),
-            _ => mean_quarter(values, side, of_face, a, b, self.z_high.as_mut_slice()),
-        }
+        let square = self.squares.square_mut(face);
+        mean_quarter(cells.values(), side, of_face, a, b, square);
     }
 
     // A cube of cells with this shell round it.
@@ -185,12 +147,12 @@ impl Shell {
         Cube {
             side: self.side as usize,
             cells,
-            x_low: self.x_low.as_slice(),
-            x_high: self.x_high.as_slice(),
-            y_low: self.y_low.as_slice(),
-            y_high: self.y_high.as_slice(),
-            z_low: self.z_low.as_slice(),
-            z_high: self.z_high.as_slice(),
+            x_low: self.squares.x_low.as_slice(),
+            x_high: self.squares.x_high.as_slice(),
+            y_low: self.squares.y_low.as_slice(),
+            y_high: self.squares.y_high.as_slice(),
+            z_low: self.squares.z_low.as_slice(),
+            z_high: self.squares.z_high.as_slice(),
         }
     }
 }

@@ -1,6 +1,7 @@
 ghost use Rattle.std.specs.Prelude.{◌≡◌, IfOk};
 
 use crate::{Cells, Memory, Shell};
+use bf_face::Face;
 use std::alloc::Global;
 use std::test::Fail;
 
@@ -9,12 +10,9 @@ fn mirror(alloc: Global, cells: &Cells) -> Result<Shell, Memory>
     ensures { IfOk result (λ s. s.side ≡ cells.now.side) }
 {
     let mut shell = Shell::blank(alloc, cells.side())?;
-    shell.set_wall(0, cells, 0);
-    shell.set_wall(1, cells, 1);
-    shell.set_wall(2, cells, 2);
-    shell.set_wall(3, cells, 3);
-    shell.set_wall(4, cells, 4);
-    shell.set_wall(5, cells, 5);
+    for face in Face::ALL {
+        shell.set_wall(face, cells, face);
+    }
     Ok(shell)
 }
 
@@ -57,7 +55,7 @@ fn a_wall_counts_once(rt: HostRuntime) -> Result<(), Fail> {
     let cells = Cells::filled(rt.alloc(), 2, 0)?;
     let mut next = cells.copy()?;
     let mut shell = Shell::blank(rt.alloc(), 2)?;
-    shell.put(3, 1, 0, 80);
+    shell.put(Face::YHigh, 1, 0, 80);
     cells.kernel(&shell, &mut next);
     assert_eq!(rt; next.values(), [0, 0, 0, 10, 0, 0, 0, 0].as_slice());
     Ok(())
@@ -80,7 +78,7 @@ fn a_coarser_face_is_doubled(rt: HostRuntime) -> Result<(), Fail> {
     let coarser = rising(rt.alloc())?;
     let mut next = cells.copy()?;
     let mut shell = Shell::blank(rt.alloc(), 4)?;
-    shell.set_wall_doubled(0, &coarser, 1, 1, 0);
+    shell.set_wall_doubled(Face::XLow, &coarser, Face::XHigh, 1, 0);
     cells.kernel(&shell, &mut next);
     let first = [
         next.get(0, 0, 0),
@@ -106,7 +104,7 @@ fn a_finer_face_is_averaged(rt: HostRuntime) -> Result<(), Fail> {
     let finer = rising(rt.alloc())?;
     let mut next = cells.copy()?;
     let mut shell = Shell::blank(rt.alloc(), 4)?;
-    shell.set_quarter_means(2, 1, 1, &finer, 3);
+    shell.set_quarter_means(Face::YLow, 1, 1, &finer, Face::YHigh);
     cells.kernel(&shell, &mut next);
     let inside = [
         next.get(2, 0, 2),

@@ -1,18 +1,13 @@
 -- Taking bytes from a source piece by piece.
-use Rattle.std.proofs.Common.{◌≡◌, ℕ, ◌+◌, ◌≤◌, List, [], ◌++◌, length, take, drop, Option, None, Some, refl, sym, ◌∙◌, ap, subst, arith, length-append}
+use Rattle.std.proofs.Common.{◌≡◌, ℕ, ◌+◌, ◌≤◌, List, ◌++◌, length, take, Option, None, Some, refl, sym, ◌∙◌, ap, subst, arith, length-append}
 use Rattle.std.proofs.Math.Seq.{take-add}
-use Rattle.std.proofs.Math.ListN.{drop_of_length-le}
-use Rattle.std.proofs.lemmas.List.{drop-drop, length-drop, length-take-le, take_all}
-use Rattle.bf_edge.specs.Source.{left_after, Gives, GivesUpTo, IsAtEnd, Passes}
+use Rattle.std.proofs.lemmas.List.{drop-drop, length-take-le}
+use Rattle.bf_edge.specs.Source.{left_after, Gives, GivesUpTo, Passes}
 
 -- what was left before gave `got`, from its front, and the rest is left now
 pub record Took (before now : Option (List ℕ)) (got : List ℕ) : Type 0 where
   pub front : GivesUpTo before (length got) got
   pub rest : now ≡ left_after before (length got)
-
-pub Took-nil : (before : Option (List ℕ)) → Took before before []
-Took-nil None = record { front = tt; rest = refl }
-Took-nil (Some all) = record { front = refl; rest = refl }
 
 pub left_after-add : (left : Option (List ℕ)) (n m : ℕ) → left_after (left_after left n) m ≡ left_after left (n + m)
 left_after-add None n m = refl
@@ -39,33 +34,6 @@ Took-more before now after got into n took within given more =
       rest = more ∙ (ap (λ left. left_after left n) took.rest
           ∙ (left_after-add before (length got) n ∙ ap (left_after before) (sym size)));
     }
-
--- as many as were wanted
-pub Took-full : (before now : Option (List ℕ)) (got : List ℕ) (most : ℕ) → Took before now got → length got ≡ most
-    → GivesUpTo before most got × (now ≡ left_after before most)
-Took-full before now got most took full =
-    (subst (λ n. GivesUpTo before n got) full took.front, took.rest ∙ ap (left_after before) full)
-
-all-taken : (all : List ℕ) (n most : ℕ) → n ≤ most → drop n all ≡ [] → (take n all ≡ take most all) × (drop n all ≡ drop most all)
-all-taken all n most within end =
-    let short : length all ≤ n = omega (arith, length-drop n all, ap length end) in
-    let longer : length all ≤ most = omega arith in
-    (take_all n all short ∙ sym (take_all most all longer), end ∙ sym (drop_of_length-le all longer))
-
-at_end : (before : Option (List ℕ)) (got : List ℕ) (most : ℕ) → GivesUpTo before (length got) got → length got ≤ most
-    → IsAtEnd (left_after before (length got)) → GivesUpTo before most got × (left_after before (length got) ≡ left_after before most)
-at_end None got most front within end = (tt, refl)
-at_end (Some all) got most front within end =
-    let both : (take (length got) all ≡ take most all) × (drop (length got) all ≡ drop most all) = all-taken all (length got) most within end in
-    (front ∙ both.0, ap Some both.1)
-
--- fewer, and then the end
-pub Took-end : (before now : Option (List ℕ)) (got : List ℕ) (most : ℕ) → Took before now got → length got ≤ most → IsAtEnd now
-    → GivesUpTo before most got × (now ≡ left_after before most)
-Took-end before now got most took within end =
-    let both : GivesUpTo before most got × (left_after before (length got) ≡ left_after before most)
-    = at_end before got most took.front within (subst IsAtEnd took.rest end) in
-    (both.0, took.rest ∙ both.1)
 
 -- some were gone already, and then some more
 pub Took-passes : (before now after : Option (List ℕ)) (got : List ℕ) (room most : ℕ) → Took before now got

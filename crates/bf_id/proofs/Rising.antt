@@ -63,10 +63,6 @@ AllPairs-append R (x ∷ xs) ys left right between =
     let tail = AllPairs-append R xs ys (λ i j d below h. left (suc i) (suc j) d (omega arith) (omega arith)) right (λ k d h. between (suc k) d (omega arith)) in
     AllPairs-cons R x (xs ++ ys) (All-append (R x) xs ys (λ k d h. left 0 (suc k) d (omega arith) (omega arith)) (between 0 x (omega arith))) tail
 
--- what begins the child begins in the block
-begins_child : (i j : BlockId) (octant : ℕ) → Begins (child_of i octant) j → Begins i j
-begins_child i j octant h = (h.0, (octant ∷ h.1.0, h.1.1 ∙ append_assoc i.digits (octant ∷ []) h.1.0))
-
 in_child : (i j : BlockId) (low octant : ℕ) → low ≤ octant → Begins (child_of i octant) j → LiesIn i low j
 in_child i j low octant from h =
     record { octant = octant; rest = h.1.0; from = from; same_root = h.0; digits = h.1.1 ∙ append_assoc i.digits (octant ∷ []) h.1.0 }

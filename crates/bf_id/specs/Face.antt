@@ -1,5 +1,5 @@
 -- Faces that two cubes share.
-use Rattle.std.specs.Prelude.{ℕ, ◌+◌}
+use Rattle.std.specs.Prelude.{◌+◌}
 use Rattle.bf_id.specs.Axis.{JoinsOn, OverlapsOn}
 use Rattle.bf_id.specs.Cube.{Cube}
 use Rattle.bf_id.specs.Shape.{axis_x, axis_y, axis_z}

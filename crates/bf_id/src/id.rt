@@ -21,11 +21,11 @@ ghost use Rattle.std.specs.Cmp.{partial_order_from_own_ties};
 ghost use Rattle.std.specs.Ordering.{as_partial_cmp};
 ghost use Rattle.std.specs.Prelude.{ℕ, ◌<◌, ◌^◌, ◌/◌, ◌≡◌, ◌↔◌, ◌∷◌, [], IfSome, IsNone, IsTrue, MatchOption};
 
-use bf_face::Face;
 use crate::id_text::IdText;
 use crate::parse::{from_parts, root_in};
 use crate::region::Region;
 use crate::shape::Shape;
+use bf_face::Face;
 use itoa::Buffer;
 use std::cmp::Ordering;
 use std::marker::Model;

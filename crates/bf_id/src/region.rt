@@ -6,8 +6,8 @@ ghost use Rattle.bf_id.specs.Shape.{root_count, root_cube, IsShape};
 ghost use Rattle.std.specs.Prelude.{◌≡◌, ◌+◌, ◌<◌, ◌≤◌, ◌↔◌, ◌∷◌, [], All, IsTrue, MatchOption};
 
 use crate::axis::Axis;
-use bf_face::Face;
 use crate::shape::Shape;
+use bf_face::Face;
 use std::marker::Model;
 
 /// A cube of whole units, by its low corner and its edge.

@@ -1,10 +1,9 @@
 -- A leaf that touches a finer one holds one of the places beside it.
-use Rattle.std.proofs.Common.{◌≡◌, ◌≢◌, ◌∙◌, Bool, true, false, ℕ, ◌+◌, ◌-◌, ◌*◌, ◌/◌, ◌%◌, ◌^◌, ◌<◌, ◌≤◌, ◌⊎◌, inl, inr, sym, subst, arith, pow_pos}
+use Rattle.std.proofs.Common.{◌≡◌, ◌∙◌, ℕ, ◌+◌, ◌-◌, ◌*◌, ◌/◌, ◌%◌, ◌^◌, ◌<◌, ◌≤◌, ◌⊎◌, inl, inr, sym, subst, arith, pow_pos}
 use Rattle.std.proofs.lemmas.Nat.{mul-le}
-use Rattle.std.proofs.lemmas.Bool.{cases_eq, cases_lt, cases_Bool}
-use Rattle.std.proofs.lemmas.Bool.Decides.{nat_tests}
+use Rattle.std.proofs.lemmas.Bool.{cases_eq, cases_lt}
 use Rattle.bf_id.specs.declared.shape.Shape.{Shape}
-use Rattle.bf_id.specs.Cube.{Cube, Spans, Holds, Meets}
+use Rattle.bf_id.specs.Cube.{Cube, Spans, Holds}
 use Rattle.bf_id.specs.Axis.{Axis, IsFirst, IsLast, MeetsOn, back, on}
 use Rattle.bf_id.specs.Meeting.{Meet}
 use Rattle.bf_id.proofs.Steps.{choose-same, choose-other, first-here, first-elsewhere, last-here, last-elsewhere, first_cases, last_cases, meets_here, meets_before, meets_after, meets_cases}

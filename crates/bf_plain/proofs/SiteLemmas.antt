@@ -1,5 +1,5 @@
 -- A leaf of a map, and the walls that are laid next to its faces.
-use Rattle.std.proofs.Common.{◌≡◌, ◌≢◌, ℕ, ◌+◌, ◌*◌, ◌/◌, ◌%◌, ◌<◌, ◌≤◌, ◌&&◌, List, Contains, get_or, cond, eqb, refl, sym, ap, subst, ◌∙◌, arith, inl, inr}
+use Rattle.std.proofs.Common.{◌≡◌, ℕ, ◌+◌, ◌*◌, ◌/◌, ◌%◌, ◌<◌, ◌≤◌, ◌&&◌, List, Contains, get_or, cond, eqb, refl, sym, ap, subst, ◌∙◌, arith, inl, inr}
 use Rattle.std.proofs.lemmas.Bool.{cases_eq}
 use Rattle.std.proofs.lemmas.Bool.Decides.{nat_tests}
 use Rattle.std.proofs.lemmas.Nat.{div_below}
@@ -7,9 +7,10 @@ use Rattle.std.proofs.Math.Nat.{div-add-mod, mod-lt}
 use Rattle.std.proofs.lemmas.List.Elements.{All-contains}
 use Rattle.bf_id.specs.declared.shape.Shape.{Shape}
 use Rattle.bf_face.specs.declared.face.Face.{Face}
-use Rattle.bf_face.specs.declared.face.Face.TheVariants.{XLow, XHigh, YLow, YHigh, ZLow, ZHigh}
+use Rattle.bf_face.specs.declared.face.Face.TheVariants.{XLow}
 use Rattle.bf_id.specs.Cube.{Cube, Voxel, Holds}
-use Rattle.bf_face.specs.Face.{number_of, opposite_of}
+use Rattle.bf_face.specs.Face.{all_faces, opposite_of}
+use Rattle.bf_face.proofs.FaceLemmas.{HoldsOfFirst, of_one_more}
 use Rattle.bf_id.specs.Id.{BlockId, IsId, InShape, box_of, level_of, octant_of}
 use Rattle.bf_id.specs.Shape.{IsShape, InDomain}
 use Rattle.bf_cells.specs.Grid.{Grid}
@@ -135,46 +136,19 @@ pub leaf_in_domain : (c : Case) (leaves : List Leaf) (chart : Chart) (i : BlockI
 leaf_in_domain c leaves chart i g box other site has =
     All-contains (InShape c.roots) (ids_of leaves) other.0 site.charted.map.map.in_shape (Contains-map (λ (leaf : Leaf). leaf.0) leaves other has)
 
--- ---- faces by their numbers
-
-pub number_below : (face : Face) → number_of face < 6
-number_below XLow = omega arith
-number_below XHigh = omega arith
-number_below YLow = omega arith
-number_below YHigh = omega arith
-number_below ZLow = omega arith
-number_below ZHigh = omega arith
-
-face_from : ℕ → Face
-face_from n =
-    cond (eqb n 0) XLow (cond (eqb n 1) XHigh (cond (eqb n 2) YLow (cond (eqb n 3) YHigh (cond (eqb n 4) ZLow ZHigh))))
-
-face_from-number : (face : Face) → face_from (number_of face) ≡ face
-unfolding face_from
-face_from-number XLow = refl
-face_from-number XHigh = refl
-face_from-number YLow = refl
-face_from-number YHigh = refl
-face_from-number ZLow = refl
-face_from-number ZHigh = refl
-
-pub one_number : (face other : Face) → number_of face ≡ number_of other → face ≡ other
-one_number face other same = sym (face_from-number face) ∙ ap face_from same ∙ face_from-number other
-
 -- ---- a square that was laid
 
-pub laid_at : (old new : Walls) (face : Face) (wall : List ℕ) (side : ℕ) → new ≡ with_wall old (number_of face) wall → old.side ≡ side
-    → (a b : ℕ) → wall_at new (number_of face) a b ≡ get_or wall (wall_place side a b) 0
+pub laid_at : (old new : Walls) (face : Face) (wall : List ℕ) (side : ℕ) → new ≡ with_wall old face wall → old.side ≡ side
+    → (a b : ℕ) → wall_at new face a b ≡ get_or wall (wall_place side a b) 0
 laid_at old new face wall side is fits a b =
-    let n = number_of face in
-    ap (λ (w : Walls). wall_at w n a b) is
-    ∙ ap (λ l. get_or l (wall_place (with_wall old n wall).side a b) 0) (wall_of-with_wall_same old n wall)
-    ∙ ap (λ s. get_or wall (wall_place s a b) 0) (side-with_wall old n wall ∙ fits)
+    ap (λ (w : Walls). wall_at w face a b) is
+    ∙ ap (λ l. get_or l (wall_place (with_wall old face wall).side a b) 0) (wall_of-with_wall_same old face wall)
+    ∙ ap (λ s. get_or wall (wall_place s a b) 0) (side-with_wall old face wall ∙ fits)
 
-pub keeps : (old new : Walls) (face : Face) (wall : List ℕ) → new ≡ with_wall old (number_of face) wall → KeepsOthers old new face
+pub keeps : (old new : Walls) (face : Face) (wall : List ℕ) → new ≡ with_wall old face wall → KeepsOthers old new face
 keeps old new face wall is other apart =
-    ap (λ (w : Walls). wall_of w (number_of other)) is
-    ∙ wall_of-with_wall_other old (number_of face) (number_of other) wall (number_below face) (number_below other) (λ same. apart (one_number other face same))
+    ap (λ (w : Walls). wall_of w other) is
+    ∙ wall_of-with_wall_other old face other wall apart
 
 pub keeps_twice : (first second third : Walls) (face : Face) → KeepsOthers first second face → KeepsOthers second third face → KeepsOthers first third face
 keeps_twice first second third face early late other apart = late other apart ∙ early other apart
@@ -182,14 +156,14 @@ keeps_twice first second third face early late other apart = late other apart �
 -- ---- what is laid holds the samples
 
 pub edge_holds : (c : Case) (leaves : List Leaf) (chart : Chart) (i : BlockId) (g : Grid) (box : Cube) (face : Face) (old new : Walls)
-    → IsSite c leaves chart i g box → IsAtEdge c.roots box face → old.side ≡ c.side → new ≡ with_wall old (number_of face) (face_values g (number_of face))
+    → IsSite c leaves chart i g box → IsAtEdge c.roots box face → old.side ≡ c.side → new ≡ with_wall old face (face_values g face)
     → HoldsBeside c.roots leaves i g new face
 edge_holds c leaves chart i g box face old new site at fits is a b a_in b_in =
     let facts = known c leaves chart i g box site in
     let side = facts.fits in
     let low = facts.low in
-    laid_at old new face (face_values g (number_of face)) g.side is (fits ∙ sym side) a b
-    ∙ get_or-face_values g (number_of face) a b a_in b_in
+    laid_at old new face (face_values g face) g.side is (fits ∙ sym side) a b
+    ∙ get_or-face_values g face a b a_in b_in
     ∙ sym (edge_beside c.roots leaves i g face a b (omega arith) facts.ends.edge (subst (λ d. IsAtEdge c.roots d face) site.boxed at))
 
 -- the cells of a leaf have the case's side
@@ -198,26 +172,26 @@ cells_fit c leaves i g is has = (All-contains (HasCells c.side) leaves (i, g) is
 
 pub same_holds : (c : Case) (leaves : List Leaf) (chart : Chart) (i j : BlockId) (g h : Grid) (box : Cube) (face : Face) (old new : Walls)
     → IsSite c leaves chart i g box → LiesAcross c.roots c.side leaves (i, g) face 0 0 (j, h) → level_of j ≡ level_of i → old.side ≡ c.side
-    → new ≡ with_wall old (number_of face) (face_values h (number_of (opposite_of face)))
+    → new ≡ with_wall old face (face_values h (opposite_of face))
     → HoldsBeside c.roots leaves i g new face
 same_holds c leaves chart i j g h box face old new site lies level fits is a b a_in b_in =
     let facts = known c leaves chart i g box site in
     let side = facts.fits in
     let side_too = cells_fit c leaves j h lies.map lies.other_in in
-    let n = number_of (opposite_of face) in
+    let n = opposite_of face in
     laid_at old new face (face_values h n) h.side is (fits ∙ sym side_too) a b
     ∙ get_or-face_values h n a b (omega arith) (omega arith)
     ∙ sym (same_beside c.roots c.side leaves i j g h face a b facts.domain lies level (omega arith) (omega arith))
 
 pub coarser_holds : (c : Case) (leaves : List Leaf) (chart : Chart) (i j : BlockId) (g h : Grid) (box : Cube) (face : Face) (old new : Walls)
     → IsSite c leaves chart i g box → LiesAcross c.roots c.side leaves (i, g) face 0 0 (j, h) → level_of j + 1 ≡ level_of i → old.side ≡ c.side
-    → new ≡ with_wall old (number_of face) (doubled_face h (number_of (opposite_of face)) (first_half face (octant_of i)) (second_half face (octant_of i)))
+    → new ≡ with_wall old face (doubled_face h (opposite_of face) (first_half face (octant_of i)) (second_half face (octant_of i)))
     → HoldsBeside c.roots leaves i g new face
 coarser_holds c leaves chart i j g h box face old new site lies level fits is a b a_in b_in =
     let facts = known c leaves chart i g box site in
     let side = facts.fits in
     let side_too = cells_fit c leaves j h lies.map lies.other_in in
-    let n = number_of (opposite_of face) in
+    let n = opposite_of face in
     let half_a = first_half face (octant_of i) in
     let half_b = second_half face (octant_of i) in
     let e = facts.ends.edge in
@@ -236,7 +210,7 @@ coarser_holds c leaves chart i j g h box face old new site lies level fits is a 
 pub QuartersHold : Shape → List Leaf → BlockId → Grid → Walls → Face → ℕ → Type 0
 QuartersHold shape leaves i g walls face count =
     (a b : ℕ) → a < g.side → b < g.side → a / (g.side / 2) + 2 * (b / (g.side / 2)) < count
-    → wall_at walls (number_of face) a b ≡ value_beside shape leaves i g face a b
+    → wall_at walls face a b ≡ value_beside shape leaves i g face a b
 
 quarter_in : (x y p q m n : ℕ) → x ≡ p → y ≡ q → cond (eqb x p && eqb y q) m n ≡ m
 quarter_in x y p q m n same same' = grind (arith, nat_tests)
@@ -247,7 +221,7 @@ quarter_out x y p q m n apart = grind (arith, nat_tests)
 pub one_quarter_more : (c : Case) (leaves : List Leaf) (chart : Chart) (i k : BlockId) (g l : Grid) (box : Cube) (face : Face) (quarter : ℕ) (walls new : Walls)
     → IsSite c leaves chart i g box → IsFinerAcross c leaves i g face → quarter < 4 → walls.side ≡ c.side
     → LiesAcross c.roots c.side leaves (i, g) face (quarter % 2 * (box.edge / 2)) (quarter / 2 * (box.edge / 2)) (k, l)
-    → new ≡ with_wall walls (number_of face) (with_quarter walls.side (quarter % 2) (quarter / 2) (face_mean l (number_of (opposite_of face))) (wall_of walls (number_of face)))
+    → new ≡ with_wall walls face (with_quarter walls.side (quarter % 2) (quarter / 2) (face_mean l (opposite_of face)) (wall_of walls face))
     → QuartersHold c.roots leaves i g walls face quarter → QuartersHold c.roots leaves i g new face (quarter + 1)
 unfolding QuartersHold
 one_quarter_more c leaves chart i k g l box face quarter walls new site across few fits lies_here is so_far a b a_in b_in below =
@@ -259,17 +233,16 @@ one_quarter_more c leaves chart i k g l box face quarter walls new site across f
     let half = g.side / 2 in
     let half_a = quarter % 2 in
     let half_b = quarter / 2 in
-    let n = number_of face in
-    let value = face_mean l (number_of (opposite_of face)) in
+    let value = face_mean l (opposite_of face) in
     let fits_here : walls.side ≡ g.side = fits ∙ sym side in
     let pos : 0 < half = omega arith in
     let x_bit : a / half < 2 = div_below a half 2 pos (omega arith) in
     let y_bit : b / half < 2 = div_below b half 2 pos (omega arith) in
-    let here : wall_at new n a b ≡ cond (in_quarter g.side half_a half_b a b) (value (a % half) (b % half)) (wall_at walls n a b) =
-    laid_at walls new face (with_quarter walls.side half_a half_b value (wall_of walls n)) walls.side is refl a b
-    ∙ ap (λ s. get_or (with_quarter s half_a half_b value (wall_of walls n)) (wall_place s a b) 0) fits_here
-    ∙ get_or-with_quarter g.side half_a half_b value (wall_of walls n) a b a_in b_in
-    ∙ ap (λ s. cond (in_quarter g.side half_a half_b a b) (value (a % half) (b % half)) (get_or (wall_of walls n) (wall_place s a b) 0)) (sym fits_here) in
+    let here : wall_at new face a b ≡ cond (in_quarter g.side half_a half_b a b) (value (a % half) (b % half)) (wall_at walls face a b) =
+    laid_at walls new face (with_quarter walls.side half_a half_b value (wall_of walls face)) walls.side is refl a b
+    ∙ ap (λ s. get_or (with_quarter s half_a half_b value (wall_of walls face)) (wall_place s a b) 0) fits_here
+    ∙ get_or-with_quarter g.side half_a half_b value (wall_of walls face) a b a_in b_in
+    ∙ ap (λ s. cond (in_quarter g.side half_a half_b a b) (value (a % half) (b % half)) (get_or (wall_of walls face) (wall_place s a b) 0)) (sym fits_here) in
     elim (cases_eq (a / half + 2 * (b / half)) quarter) [
       | inl same ↦
           let x_is : a / half ≡ half_a = omega arith in
@@ -310,28 +283,11 @@ all_quarters c leaves chart i g box face walls site all a b a_in b_in =
 
 -- ---- all faces
 
--- the first so many faces hold the samples
-pub FacesHold : Shape → List Leaf → BlockId → Grid → Walls → ℕ → Type 0
-FacesHold shape leaves i g walls count = (face : Face) → number_of face < count → HoldsBeside shape leaves i g walls face
-
-pub no_faces : (shape : Shape) (leaves : List Leaf) (i : BlockId) (g : Grid) (walls : Walls) → FacesHold shape leaves i g walls 0
-unfolding FacesHold
-no_faces shape leaves i g walls face below = absurd (omega (arith, below))
-
-pub one_face_more : (shape : Shape) (leaves : List Leaf) (i : BlockId) (g : Grid) (walls new : Walls) (face : Face) (count : ℕ) → number_of face ≡ count
-    → FacesHold shape leaves i g walls count → HoldsBeside shape leaves i g new face → KeepsOthers walls new face → new.side ≡ walls.side
-    → FacesHold shape leaves i g new (count + 1)
-unfolding FacesHold
-one_face_more shape leaves i g walls new face count at so_far here kept sides other below =
-    elim (cases_eq (number_of other) count) [
-      | inl same ↦ subst (HoldsBeside shape leaves i g new) (sym (one_number other face (same ∙ sym at))) here
-      | inr before ↦
-          let apart : other ≢ face = λ same. before (ap number_of same ∙ at) in
-          λ a b a_in b_in. ap (λ l. get_or l (wall_place new.side a b) 0) (kept other apart)
-          ∙ ap (λ s. get_or (wall_of walls (number_of other)) (wall_place s a b) 0) sides ∙ so_far other (omega arith) a b a_in b_in
-    ]
-
-pub all_faces : (shape : Shape) (leaves : List Leaf) (i : BlockId) (g : Grid) (walls : Walls) → FacesHold shape leaves i g walls 6
-    → (face : Face) → HoldsBeside shape leaves i g walls face
-unfolding FacesHold
-all_faces shape leaves i g walls all face = all face (number_below face)
+-- one face more holds the samples, and the others stay
+pub one_face_more : (shape : Shape) (leaves : List Leaf) (i : BlockId) (g : Grid) (walls new : Walls) (k : ℕ) → k < 6
+    → HoldsOfFirst (HoldsBeside shape leaves i g walls) k → HoldsBeside shape leaves i g new (get_or all_faces k XLow)
+    → KeepsOthers walls new (get_or all_faces k XLow) → new.side ≡ walls.side → HoldsOfFirst (HoldsBeside shape leaves i g new) (k + 1)
+one_face_more shape leaves i g walls new k few first here kept sides =
+    of_one_more (HoldsBeside shape leaves i g walls) (HoldsBeside shape leaves i g new) k few first here (λ other apart held a b a_in b_in.
+    ap (λ l. get_or l (wall_place new.side a b) 0) (kept other apart)
+    ∙ ap (λ s. get_or (wall_of walls other) (wall_place s a b) 0) sides ∙ held a b a_in b_in)

@@ -1,7 +1,6 @@
 -- A map with its chart, and the leaves across the faces of its leaves.
 use Rattle.std.specs.Prelude.{◌≡◌, ◌≢◌, ◌+◌, ◌≤◌, List, Contains}
 use Rattle.bf_id.specs.Cube.{Cube}
-use Rattle.bf_face.specs.Face.{number_of}
 use Rattle.bf_id.specs.Id.{BlockId, box_of, level_of}
 use Rattle.bf_face.specs.declared.face.Face.{Face}
 use Rattle.bf_cells.specs.Grid.{Grid}
@@ -38,4 +37,4 @@ pub record IsNarrow (c : Cube) : Type 0 where
 
 -- the squares of the other faces stay
 abbrev pub KeepsOthers : Walls → Walls → Face → Type 0
-KeepsOthers old new face = (other : Face) → other ≢ face → wall_of new (number_of other) ≡ wall_of old (number_of other)
+KeepsOthers old new face = (other : Face) → other ≢ face → wall_of new other ≡ wall_of old other

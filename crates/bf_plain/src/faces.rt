@@ -1,6 +1,5 @@
 //! The faces of a block's box, and the units across them.
 ghost use Rattle.std.specs.Prelude.{◌≡◌, ◌+◌, ◌*◌, ◌/◌, ◌<◌, ◌≤◌, ◌↔◌, IsTrue};
-ghost use Rattle.bf_face.specs.Face.{number_of};
 ghost use Rattle.bf_id.specs.Id.{octant_of};
 ghost use Rattle.bf_id.specs.Shape.{IsShape};
 ghost use Rattle.bf_case.specs.Beside.{unit_across, IsAtEdge};
@@ -12,14 +11,6 @@ use crate::atlas::Voxel;
 use crate::places::Block;
 use bf_face::Face;
 use bf_id::{Axis, Id, Shape};
-
-/// The face of a number.
-pub(crate) fn face_at(number: usize) -> Face
-    requires { number < 6 }
-    ensures { number_of result ≡ number }
-{
-    Face::ALL[number]
-}
 
 impl Block {
     /// Whether a face lies at the domain's edge.

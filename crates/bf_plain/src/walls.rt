@@ -1,7 +1,7 @@
 //! The walls around a leaf: what lies next to its faces, in leaves of its level and of the levels beside it.
 ghost use Rattle.std.specs.Prelude.{◌≡◌, ℕ, ◌+◌, ◌-◌, ◌*◌, ◌/◌, ◌%◌, ◌<◌, ◌≤◌, length, Contains};
 ghost use Rattle.bf_id.specs.Cube.{Holds};
-ghost use Rattle.bf_face.specs.Face.{number_of, opposite_of};
+ghost use Rattle.bf_face.specs.Face.{opposite_of};
 ghost use Rattle.bf_id.specs.Id.{box_of, level_of, octant_of};
 ghost use Rattle.bf_id.specs.Shape.{InDomain};
 ghost use Rattle.bf_cells.specs.Levels.{doubled_face};
@@ -11,7 +11,7 @@ ghost use Rattle.bf_case.specs.Halves.{first_half, second_half};
 ghost use Rattle.bf_plain.specs.Survey.{IsCharted, IsFinerAcross, IsSite, KeepsOthers};
 
 use crate::atlas::{Atlas, Voxel};
-use crate::faces::{face_at, halves, octant_of};
+use crate::faces::{halves, octant_of};
 use crate::places::Block;
 use bf_case::Case;
 use bf_cells::{Cells, Shell};
@@ -37,18 +37,12 @@ pub(crate) struct Site<'a> {
 /// Lays next to a face of a block the quarter that lies across it of a leaf one level coarser.
 fn lay_coarser(shell: &mut Shell, id: Id, face: Face, cells: &Cells)
     requires { cells.now.side ≡ shell.old.side }
-    ensures wall { shell.new ≡ with_wall shell.old (number_of face) (doubled_face cells.now (number_of (opposite_of face))
+    ensures wall { shell.new ≡ with_wall shell.old face (doubled_face cells.now (opposite_of face)
         (first_half face (octant_of id)) (second_half face (octant_of id))) }
     ensures side { shell.new.side ≡ shell.old.side }
 {
     let (half_a, half_b) = halves(face, octant_of(id));
-    shell.set_wall_doubled(
-        face.number(),
-        cells,
-        face.opposite().number(),
-        half_a,
-        half_b,
-    );
+    shell.set_wall_doubled(face, cells, face.opposite(), half_a, half_b);
 }
 
 impl<'a> Survey<'a> {
@@ -78,13 +72,7 @@ impl<'a> Survey<'a> {
                 .block
                 .across_quarter(self.case.roots, face, half_a, half_b);
             let (_, cells) = self.leaf_with(unit);
-            shell.set_quarter_means(
-                face.number(),
-                half_a,
-                half_b,
-                cells,
-                face.opposite().number(),
-            );
+            shell.set_quarter_means(face, half_a, half_b, cells, face.opposite());
         }
     }
 
@@ -104,7 +92,7 @@ impl<'a> Survey<'a> {
         } else if other.level() < site.id.level() {
             lay_coarser(shell, site.id, face, cells);
         } else {
-            shell.set_wall(face.number(), cells, face.opposite().number());
+            shell.set_wall(face, cells, face.opposite());
         }
     }
 
@@ -117,7 +105,7 @@ impl<'a> Survey<'a> {
         ensures side { shell.new.side ≡ shell.old.side }
     {
         if site.block.is_at_edge(self.case.roots, face) {
-            shell.set_wall(face.number(), site.cells, face.number());
+            shell.set_wall(face, site.cells, face);
         } else {
             self.lay_across(shell, site, face);
         }
@@ -130,8 +118,8 @@ impl<'a> Survey<'a> {
         ensures samples { HoldSamples self.entry.case.now.roots self.entry.leaves.now site.now.id site.now.cells.now shell.new }
         ensures side { shell.new.side ≡ shell.old.side }
     {
-        for number in 0..6 {
-            self.lay_face(shell, site, face_at(number));
+        for face in Face::ALL {
+            self.lay_face(shell, site, face);
         }
     }
 }

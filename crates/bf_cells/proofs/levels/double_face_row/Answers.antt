@@ -1,35 +1,33 @@
--- The face's number picks the coordinate that is fixed.
-use Rattle.std.proofs.Common.{arith, ◌≡◌}
+-- The face picks the coordinate that is fixed.
 use Rattle.bf_cells.specs.Shell.{face_cell}
 use Rattle.bf_cells.proofs.levels.double_face_row.Goals as goal
 
-pub returns-in-0 : goal.returns-in-0
+pub returns-in-XLow : goal.returns-in-XLow
 unfolding face_cell
-returns-in-0 c k hk =
-    rw c.in-0.is (c.double_column.ensures k hk)
+returns-in-XLow c k hk =
+    rw c.in-XLow.is (c.double_column.ensures k hk)
 
-pub returns-in-1 : goal.returns-in-1
+pub returns-in-XHigh : goal.returns-in-XHigh
 unfolding face_cell
-returns-in-1 c k hk =
-    rw c.in-1.is (c.double_column-in-1.ensures k hk)
+returns-in-XHigh c k hk =
+    rw c.in-XHigh.is (c.double_column-in-XHigh.ensures k hk)
 
-pub returns-in-2 : goal.returns-in-2
+pub returns-in-YLow : goal.returns-in-YLow
 unfolding face_cell
-returns-in-2 c k hk =
-    rw c.in-2.is (c.double_cells.ensures k hk)
+returns-in-YLow c k hk =
+    rw c.in-YLow.is (c.double_cells.ensures k hk)
 
-pub returns-in-3 : goal.returns-in-3
+pub returns-in-YHigh : goal.returns-in-YHigh
 unfolding face_cell
-returns-in-3 c k hk =
-    rw c.in-3.is (c.double_cells-in-3.ensures k hk)
+returns-in-YHigh c k hk =
+    rw c.in-YHigh.is (c.double_cells-in-YHigh.ensures k hk)
 
-pub returns-in-4 : goal.returns-in-4
+pub returns-in-ZLow : goal.returns-in-ZLow
 unfolding face_cell
-returns-in-4 c k hk =
-    rw c.in-4.is (c.double_cells-in-4.ensures k hk)
+returns-in-ZLow c k hk =
+    rw c.in-ZLow.is (c.double_cells-in-ZLow.ensures k hk)
 
-pub returns-in_default : goal.returns-in_default
+pub returns-in-ZHigh : goal.returns-in-ZHigh
 unfolding face_cell
-returns-in_default c k hk =
-    let last : c.args.face ≡ 5 = omega arith in
-    rw last (c.double_cells-in_default.ensures k hk)
+returns-in-ZHigh c k hk =
+    rw c.in-ZHigh.is (c.double_cells-in-ZHigh.ensures k hk)

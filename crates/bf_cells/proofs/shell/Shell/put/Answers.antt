@@ -1,30 +1,32 @@
--- In each arm the face's number picks the field.
-use Rattle.std.proofs.Common.{arith, ◌≡◌, refl}
-use Rattle.bf_cells.specs.Shell.{wall_of, with_wall}
+-- The square of the face has the value, and the others stay.
+use Rattle.std.proofs.Common.{arith, ◌≡◌, ◌*◌, ◌∙◌, ap, subst, length, set}
+use Rattle.bf_cells.specs.Shell.{Walls, IsShell, wall_of, wall_place}
+use Rattle.bf_cells.proofs.PlaceLemmas.{row_place_below}
+use Rattle.bf_cells.proofs.ShellLemmas.{IsLaid, laid}
+use Rattle.bf_cells.proofs.WallLemmas.{IsWall-set}
 use Rattle.bf_cells.proofs.shell.Shell.put.Goals as goal
 
-pub returns-in-0-clause-values : goal.returns-in-0-clause-values
-unfolding wall_of with_wall
-returns-in-0-clause-values c = rw (← c.self.view_is, c.in-0.is, c.square_place-at.ensures) refl
+pub bounds-square_mut-at : goal.bounds-square_mut-at
+bounds-square_mut-at c =
+    let s = c.self.inside.side in
+    let side : s ≡ c.args.self.now.side = ap (λ (w : Walls). w.side) c.self.view_is in
+    let full : length c.square_mut.result.now ≡ s * s = ap length (c.square_mut.ensures.value s) ∙ (c.self.invariant.full c.args.face).full in
+    let below = row_place_below s s c.args.a c.args.b (omega (arith, side, c.requires.a_below)) (omega (arith, side, c.requires.b_below)) in
+    omega (arith, full, below, c.square_place-at.ensures)
 
-pub returns-in-1-clause-values : goal.returns-in-1-clause-values
-unfolding wall_of with_wall
-returns-in-1-clause-values c = rw (← c.self.view_is, c.in-1.is, c.square_place-at.ensures) refl
+put_in : (c : goal.After-self-1) → IsLaid c.self.inside c.args.self.now c.args.face (set c.square_mut.result.now c.square_place-at.result c.args.value)
+    (set (wall_of c.args.self.now c.args.face) (wall_place c.args.self.now.side c.args.a c.args.b) c.args.value)
+put_in c =
+    let old = c.args.self.now in
+    let side : c.self.inside.side ≡ old.side = ap (λ (w : Walls). w.side) c.self.view_is in
+    let was = wall_of old c.args.face in
+    laid c.self.inside old c.args.face _ (set was (wall_place old.side c.args.a c.args.b) c.args.value) c.self.view_is c.self.invariant
+    (ap (λ l. set l c.square_place-at.result c.args.value) (c.square_mut.ensures.value c.self.inside.side ∙ ap (λ w. wall_of w c.args.face) c.self.view_is)
+    ∙ ap (λ k. set was k c.args.value) (c.square_place-at.ensures ∙ ap (λ s. wall_place s c.args.a c.args.b) side))
+    (IsWall-set old.side was _ c.args.value ((subst IsShell c.self.view_is c.self.invariant).full c.args.face) c.ranges.value.fits)
 
-pub returns-in-2-clause-values : goal.returns-in-2-clause-values
-unfolding wall_of with_wall
-returns-in-2-clause-values c = rw (← c.self.view_is, c.in-2.is, c.square_place-at.ensures) refl
+pub invariant_of-self : goal.invariant_of-self
+invariant_of-self c = (put_in c).full
 
-pub returns-in-3-clause-values : goal.returns-in-3-clause-values
-unfolding wall_of with_wall
-returns-in-3-clause-values c = rw (← c.self.view_is, c.in-3.is, c.square_place-at.ensures) refl
-
-pub returns-in-4-clause-values : goal.returns-in-4-clause-values
-unfolding wall_of with_wall
-returns-in-4-clause-values c = rw (← c.self.view_is, c.in-4.is, c.square_place-at.ensures) refl
-
-pub returns-in_default-clause-values : goal.returns-in_default-clause-values
-unfolding wall_of with_wall
-returns-in_default-clause-values c =
-    let last : c.args.face ≡ 5 = omega arith in
-    rw (← c.self.view_is, last, c.square_place-at.ensures) refl
+pub returns-clause-values : goal.returns-clause-values
+returns-clause-values c = (put_in c).is

@@ -1,113 +1,35 @@
--- In each arm one square has the means, and the others stay.
-use Rattle.std.proofs.Common.{arith, ◌≡◌, ◌∙◌, ℕ, ap, refl, subst}
-use Rattle.std.specs.Vec.{with_items}
-use Rattle.std.proofs.lemmas.List.{with_items_is}
-use Rattle.bf_cells.specs.Shell.{Walls, IsShell, with_wall, wall_of}
-use Rattle.bf_cells.specs.Levels.{with_quarter, face_mean}
-use Rattle.bf_cells.specs.ShellFields.{walls_in}
-use Rattle.bf_cells.proofs.WallLemmas.{IsLaid}
-use Rattle.bf_cells.proofs.LevelLemmas.{averaged}
+-- A quarter of the face's square has the means, and the others stay.
+use Rattle.std.proofs.Common.{◌≡◌, ◌∙◌, ℕ, List, ap, subst, length}
+use Rattle.bf_cells.specs.Grid.{Grid, grid_with}
+use Rattle.bf_cells.specs.Levels.{face_mean, with_quarter}
+use Rattle.bf_cells.specs.Shell.{Walls, IsShell, wall_of}
+use Rattle.bf_cells.proofs.LevelLemmas.{face_mean_small, IsWall-with_quarter}
+use Rattle.bf_cells.proofs.ShellLemmas.{IsLaid, laid}
+use Rattle.bf_cells.proofs.WallLemmas.{read_grid}
 use Rattle.bf_cells.proofs.shell.Shell.set_quarter_means.Goals as goal
 
-x_low_averaged : (c : goal.After-self-1)
-    → IsLaid c.args.self.now (record (walls_in c.self.inside) { x_low = (with_items c.self.inside.x_low c.mean_quarter.new.into).items }) c.args.face (with_quarter c.args.self.now.side c.args.half_a c.args.half_b (face_mean c.args.cells.now c.args.of_face) (wall_of c.args.self.now c.args.face))
-unfolding with_wall wall_of
-x_low_averaged c =
-    let side : Walls → ℕ = λ w. w.side in
-    averaged c.args.self.now c.args.face c.args.cells.now c.args.of_face c.args.half_a c.args.half_b (λ wall. record (walls_in c.self.inside) { x_low = wall })
-    c.self.inside.side c.values-values.result.now c.as_mut_slice.result.now c.mean_quarter.new.into (with_items c.self.inside.x_low c.mean_quarter.new.into).items
-    (λ wall. rw (← c.self.view_is, c.in-0.is) refl) (subst IsShell c.self.view_is c.self.invariant) c.values-values.ensures.valid c.requires.sides
-    (ap side c.self.view_is) c.values-values.ensures.values (c.as_mut_slice.ensures.value ∙ rw (← c.self.view_is, c.in-0.is) refl) c.mean_quarter.ensures
-    (with_items_is c.self.inside.x_low c.mean_quarter.new.into (c.mean_quarter.auto.into ∙ c.as_mut_slice.ensures.len))
+pub mean_quarter-requires-clause-into : goal.mean_quarter-requires-clause-into
+mean_quarter-requires-clause-into c = ap length (c.square_mut-square.ensures.value c.self.inside.side) ∙ (c.self.invariant.full c.args.face).full
+
+averaged : (c : goal.After-self-1) → IsLaid c.self.inside c.args.self.now c.args.face c.mean_quarter.new.into
+    (with_quarter c.args.self.now.side c.args.half_a c.args.half_b (face_mean c.args.cells.now c.args.of_face) (wall_of c.args.self.now c.args.face))
+averaged c =
+    let a = c.args in
+    let old = a.self.now in
+    let g = a.cells.now in
+    let was = wall_of old a.face in
+    let before = c.square_mut-square.result.now in
+    let quarter = λ (s : ℕ) (h : Grid) (l : List ℕ). with_quarter s a.half_a a.half_b (face_mean h a.of_face) l in
+    let side : c.self.inside.side ≡ old.side = ap (λ (w : Walls). w.side) c.self.view_is in
+    let read = read_grid g c.self.inside.side old.side c.values.result.now c.requires.sides side c.values.ensures.values in
+    laid c.self.inside old a.face _ (quarter old.side g was) c.self.view_is c.self.invariant
+    (c.mean_quarter.ensures ∙ ap (λ s. quarter s (grid_with c.self.inside.side c.values.result.now) before) side ∙ ap (λ h. quarter old.side h before) read
+    ∙ ap (quarter old.side g) (c.square_mut-square.ensures.value c.self.inside.side ∙ ap (λ w. wall_of w a.face) c.self.view_is))
+    (IsWall-with_quarter old.side a.half_a a.half_b (face_mean g a.of_face) was (face_mean_small g c.values.ensures.valid a.of_face)
+    ((subst IsShell c.self.view_is c.self.invariant).full a.face))
 
 pub invariant_of-self : goal.invariant_of-self
-invariant_of-self c = (x_low_averaged c).full
+invariant_of-self c = (averaged c).full
 
-pub returns-in-0-clause-values : goal.returns-in-0-clause-values
-returns-in-0-clause-values c = (x_low_averaged c).is
-
-x_high_averaged : (c : goal.After-self-in-1-1)
-    → IsLaid c.args.self.now (record (walls_in c.self.inside) { x_high = (with_items c.self.inside.x_high c.mean_quarter-in-1.new.into).items }) c.args.face (with_quarter c.args.self.now.side c.args.half_a c.args.half_b (face_mean c.args.cells.now c.args.of_face) (wall_of c.args.self.now c.args.face))
-unfolding with_wall wall_of
-x_high_averaged c =
-    let side : Walls → ℕ = λ w. w.side in
-    averaged c.args.self.now c.args.face c.args.cells.now c.args.of_face c.args.half_a c.args.half_b (λ wall. record (walls_in c.self.inside) { x_high = wall })
-    c.self.inside.side c.values-values.result.now c.as_mut_slice-in-1.result.now c.mean_quarter-in-1.new.into (with_items c.self.inside.x_high c.mean_quarter-in-1.new.into).items
-    (λ wall. rw (← c.self.view_is, c.in-1.is) refl) (subst IsShell c.self.view_is c.self.invariant) c.values-values.ensures.valid c.requires.sides
-    (ap side c.self.view_is) c.values-values.ensures.values (c.as_mut_slice-in-1.ensures.value ∙ rw (← c.self.view_is, c.in-1.is) refl) c.mean_quarter-in-1.ensures
-    (with_items_is c.self.inside.x_high c.mean_quarter-in-1.new.into (c.mean_quarter-in-1.auto.into ∙ c.as_mut_slice-in-1.ensures.len))
-
-pub invariant_of-self-in-1 : goal.invariant_of-self-in-1
-invariant_of-self-in-1 c = (x_high_averaged c).full
-
-pub returns-in-1-clause-values : goal.returns-in-1-clause-values
-returns-in-1-clause-values c = (x_high_averaged c).is
-
-y_low_averaged : (c : goal.After-self-in-2-1)
-    → IsLaid c.args.self.now (record (walls_in c.self.inside) { y_low = (with_items c.self.inside.y_low c.mean_quarter-in-2.new.into).items }) c.args.face (with_quarter c.args.self.now.side c.args.half_a c.args.half_b (face_mean c.args.cells.now c.args.of_face) (wall_of c.args.self.now c.args.face))
-unfolding with_wall wall_of
-y_low_averaged c =
-    let side : Walls → ℕ = λ w. w.side in
-    averaged c.args.self.now c.args.face c.args.cells.now c.args.of_face c.args.half_a c.args.half_b (λ wall. record (walls_in c.self.inside) { y_low = wall })
-    c.self.inside.side c.values-values.result.now c.as_mut_slice-in-2.result.now c.mean_quarter-in-2.new.into (with_items c.self.inside.y_low c.mean_quarter-in-2.new.into).items
-    (λ wall. rw (← c.self.view_is, c.in-2.is) refl) (subst IsShell c.self.view_is c.self.invariant) c.values-values.ensures.valid c.requires.sides
-    (ap side c.self.view_is) c.values-values.ensures.values (c.as_mut_slice-in-2.ensures.value ∙ rw (← c.self.view_is, c.in-2.is) refl) c.mean_quarter-in-2.ensures
-    (with_items_is c.self.inside.y_low c.mean_quarter-in-2.new.into (c.mean_quarter-in-2.auto.into ∙ c.as_mut_slice-in-2.ensures.len))
-
-pub invariant_of-self-in-2 : goal.invariant_of-self-in-2
-invariant_of-self-in-2 c = (y_low_averaged c).full
-
-pub returns-in-2-clause-values : goal.returns-in-2-clause-values
-returns-in-2-clause-values c = (y_low_averaged c).is
-
-y_high_averaged : (c : goal.After-self-in-3-1)
-    → IsLaid c.args.self.now (record (walls_in c.self.inside) { y_high = (with_items c.self.inside.y_high c.mean_quarter-in-3.new.into).items }) c.args.face (with_quarter c.args.self.now.side c.args.half_a c.args.half_b (face_mean c.args.cells.now c.args.of_face) (wall_of c.args.self.now c.args.face))
-unfolding with_wall wall_of
-y_high_averaged c =
-    let side : Walls → ℕ = λ w. w.side in
-    averaged c.args.self.now c.args.face c.args.cells.now c.args.of_face c.args.half_a c.args.half_b (λ wall. record (walls_in c.self.inside) { y_high = wall })
-    c.self.inside.side c.values-values.result.now c.as_mut_slice-in-3.result.now c.mean_quarter-in-3.new.into (with_items c.self.inside.y_high c.mean_quarter-in-3.new.into).items
-    (λ wall. rw (← c.self.view_is, c.in-3.is) refl) (subst IsShell c.self.view_is c.self.invariant) c.values-values.ensures.valid c.requires.sides
-    (ap side c.self.view_is) c.values-values.ensures.values (c.as_mut_slice-in-3.ensures.value ∙ rw (← c.self.view_is, c.in-3.is) refl) c.mean_quarter-in-3.ensures
-    (with_items_is c.self.inside.y_high c.mean_quarter-in-3.new.into (c.mean_quarter-in-3.auto.into ∙ c.as_mut_slice-in-3.ensures.len))
-
-pub invariant_of-self-in-3 : goal.invariant_of-self-in-3
-invariant_of-self-in-3 c = (y_high_averaged c).full
-
-pub returns-in-3-clause-values : goal.returns-in-3-clause-values
-returns-in-3-clause-values c = (y_high_averaged c).is
-
-z_low_averaged : (c : goal.After-self-in-4-1)
-    → IsLaid c.args.self.now (record (walls_in c.self.inside) { z_low = (with_items c.self.inside.z_low c.mean_quarter-in-4.new.into).items }) c.args.face (with_quarter c.args.self.now.side c.args.half_a c.args.half_b (face_mean c.args.cells.now c.args.of_face) (wall_of c.args.self.now c.args.face))
-unfolding with_wall wall_of
-z_low_averaged c =
-    let side : Walls → ℕ = λ w. w.side in
-    averaged c.args.self.now c.args.face c.args.cells.now c.args.of_face c.args.half_a c.args.half_b (λ wall. record (walls_in c.self.inside) { z_low = wall })
-    c.self.inside.side c.values-values.result.now c.as_mut_slice-in-4.result.now c.mean_quarter-in-4.new.into (with_items c.self.inside.z_low c.mean_quarter-in-4.new.into).items
-    (λ wall. rw (← c.self.view_is, c.in-4.is) refl) (subst IsShell c.self.view_is c.self.invariant) c.values-values.ensures.valid c.requires.sides
-    (ap side c.self.view_is) c.values-values.ensures.values (c.as_mut_slice-in-4.ensures.value ∙ rw (← c.self.view_is, c.in-4.is) refl) c.mean_quarter-in-4.ensures
-    (with_items_is c.self.inside.z_low c.mean_quarter-in-4.new.into (c.mean_quarter-in-4.auto.into ∙ c.as_mut_slice-in-4.ensures.len))
-
-pub invariant_of-self-in-4 : goal.invariant_of-self-in-4
-invariant_of-self-in-4 c = (z_low_averaged c).full
-
-pub returns-in-4-clause-values : goal.returns-in-4-clause-values
-returns-in-4-clause-values c = (z_low_averaged c).is
-
-z_high_averaged : (c : goal.After-self-in_default-1)
-    → IsLaid c.args.self.now (record (walls_in c.self.inside) { z_high = (with_items c.self.inside.z_high c.mean_quarter-in_default.new.into).items }) c.args.face (with_quarter c.args.self.now.side c.args.half_a c.args.half_b (face_mean c.args.cells.now c.args.of_face) (wall_of c.args.self.now c.args.face))
-unfolding with_wall wall_of
-z_high_averaged c =
-    let side : Walls → ℕ = λ w. w.side in
-    let last : c.args.face ≡ 5 = omega arith in
-    averaged c.args.self.now c.args.face c.args.cells.now c.args.of_face c.args.half_a c.args.half_b (λ wall. record (walls_in c.self.inside) { z_high = wall })
-    c.self.inside.side c.values-values.result.now c.as_mut_slice-in_default.result.now c.mean_quarter-in_default.new.into (with_items c.self.inside.z_high c.mean_quarter-in_default.new.into).items
-    (λ wall. rw (← c.self.view_is, last) refl) (subst IsShell c.self.view_is c.self.invariant) c.values-values.ensures.valid c.requires.sides
-    (ap side c.self.view_is) c.values-values.ensures.values (c.as_mut_slice-in_default.ensures.value ∙ rw (← c.self.view_is, last) refl) c.mean_quarter-in_default.ensures
-    (with_items_is c.self.inside.z_high c.mean_quarter-in_default.new.into (c.mean_quarter-in_default.auto.into ∙ c.as_mut_slice-in_default.ensures.len))
-
-pub invariant_of-self-in_default : goal.invariant_of-self-in_default
-invariant_of-self-in_default c = (z_high_averaged c).full
-
-pub returns-in_default-clause-values : goal.returns-in_default-clause-values
-returns-in_default-clause-values c = (z_high_averaged c).is
+pub returns-clause-values : goal.returns-clause-values
+returns-clause-values c = (averaged c).is

@@ -1,113 +1,29 @@
--- In each arm one square is the doubled quarter, and the others stay.
-use Rattle.std.proofs.Common.{arith, ◌≡◌, ◌∙◌, ℕ, ap, refl, subst}
-use Rattle.std.specs.Vec.{with_items}
-use Rattle.std.proofs.lemmas.List.{with_items_is}
-use Rattle.bf_cells.specs.Shell.{Walls, IsShell, with_wall}
+-- The square of the face is the doubled quarter, and the others stay.
+use Rattle.std.proofs.Common.{◌≡◌, ◌∙◌, ap, subst, length}
 use Rattle.bf_cells.specs.Levels.{doubled_face}
-use Rattle.bf_cells.specs.ShellFields.{walls_in}
-use Rattle.bf_cells.proofs.WallLemmas.{IsLaid}
-use Rattle.bf_cells.proofs.LevelLemmas.{doubled}
+use Rattle.bf_cells.specs.Shell.{Walls, IsWall}
+use Rattle.bf_cells.proofs.LevelLemmas.{IsWall-doubled_face}
+use Rattle.bf_cells.proofs.ShellLemmas.{IsLaid, laid}
+use Rattle.bf_cells.proofs.WallLemmas.{read_grid}
 use Rattle.bf_cells.proofs.shell.Shell.set_wall_doubled.Goals as goal
 
-x_low_doubled : (c : goal.After-self-1)
-    → IsLaid c.args.self.now (record (walls_in c.self.inside) { x_low = (with_items c.self.inside.x_low c.double_face.new.into).items }) c.args.face (doubled_face c.args.cells.now c.args.of_face c.args.half_a c.args.half_b)
-unfolding with_wall
-x_low_doubled c =
-    let side : Walls → ℕ = λ w. w.side in
-    doubled c.args.self.now c.args.face c.args.cells.now c.args.of_face c.args.half_a c.args.half_b (λ wall. record (walls_in c.self.inside) { x_low = wall })
-    c.self.inside.side c.values-values.result.now c.double_face.new.into (with_items c.self.inside.x_low c.double_face.new.into).items
-    (λ wall. rw (← c.self.view_is, c.in-0.is) refl) (subst IsShell c.self.view_is c.self.invariant) c.values-values.ensures.valid c.requires.sides
-    (ap side c.self.view_is) c.values-values.ensures.values c.double_face.ensures
-    (with_items_is c.self.inside.x_low c.double_face.new.into (c.double_face.auto.into ∙ c.as_mut_slice.ensures.len))
+pub double_face-requires-clause-into : goal.double_face-requires-clause-into
+double_face-requires-clause-into c = ap length (c.square_mut-square.ensures.value c.self.inside.side) ∙ (c.self.invariant.full c.args.face).full
+
+doubled : (c : goal.After-self-1)
+    → IsLaid c.self.inside c.args.self.now c.args.face c.double_face.new.into (doubled_face c.args.cells.now c.args.of_face c.args.half_a c.args.half_b)
+doubled c =
+    let a = c.args in
+    let old = a.self.now in
+    let g = a.cells.now in
+    let wall = doubled_face g a.of_face a.half_a a.half_b in
+    let side : c.self.inside.side ≡ old.side = ap (λ (w : Walls). w.side) c.self.view_is in
+    laid c.self.inside old a.face _ wall c.self.view_is c.self.invariant
+    (c.double_face.ensures ∙ ap (λ h. doubled_face h a.of_face a.half_a a.half_b) (read_grid g _ old.side _ c.requires.sides side c.values.ensures.values))
+    (subst (λ s. IsWall s wall) c.requires.sides (IsWall-doubled_face g a.of_face a.half_a a.half_b c.values.ensures.valid))
 
 pub invariant_of-self : goal.invariant_of-self
-invariant_of-self c = (x_low_doubled c).full
+invariant_of-self c = (doubled c).full
 
-pub returns-in-0-clause-values : goal.returns-in-0-clause-values
-returns-in-0-clause-values c = (x_low_doubled c).is
-
-x_high_doubled : (c : goal.After-self-in-1-1)
-    → IsLaid c.args.self.now (record (walls_in c.self.inside) { x_high = (with_items c.self.inside.x_high c.double_face-in-1.new.into).items }) c.args.face (doubled_face c.args.cells.now c.args.of_face c.args.half_a c.args.half_b)
-unfolding with_wall
-x_high_doubled c =
-    let side : Walls → ℕ = λ w. w.side in
-    doubled c.args.self.now c.args.face c.args.cells.now c.args.of_face c.args.half_a c.args.half_b (λ wall. record (walls_in c.self.inside) { x_high = wall })
-    c.self.inside.side c.values-values.result.now c.double_face-in-1.new.into (with_items c.self.inside.x_high c.double_face-in-1.new.into).items
-    (λ wall. rw (← c.self.view_is, c.in-1.is) refl) (subst IsShell c.self.view_is c.self.invariant) c.values-values.ensures.valid c.requires.sides
-    (ap side c.self.view_is) c.values-values.ensures.values c.double_face-in-1.ensures
-    (with_items_is c.self.inside.x_high c.double_face-in-1.new.into (c.double_face-in-1.auto.into ∙ c.as_mut_slice-in-1.ensures.len))
-
-pub invariant_of-self-in-1 : goal.invariant_of-self-in-1
-invariant_of-self-in-1 c = (x_high_doubled c).full
-
-pub returns-in-1-clause-values : goal.returns-in-1-clause-values
-returns-in-1-clause-values c = (x_high_doubled c).is
-
-y_low_doubled : (c : goal.After-self-in-2-1)
-    → IsLaid c.args.self.now (record (walls_in c.self.inside) { y_low = (with_items c.self.inside.y_low c.double_face-in-2.new.into).items }) c.args.face (doubled_face c.args.cells.now c.args.of_face c.args.half_a c.args.half_b)
-unfolding with_wall
-y_low_doubled c =
-    let side : Walls → ℕ = λ w. w.side in
-    doubled c.args.self.now c.args.face c.args.cells.now c.args.of_face c.args.half_a c.args.half_b (λ wall. record (walls_in c.self.inside) { y_low = wall })
-    c.self.inside.side c.values-values.result.now c.double_face-in-2.new.into (with_items c.self.inside.y_low c.double_face-in-2.new.into).items
-    (λ wall. rw (← c.self.view_is, c.in-2.is) refl) (subst IsShell c.self.view_is c.self.invariant) c.values-values.ensures.valid c.requires.sides
-    (ap side c.self.view_is) c.values-values.ensures.values c.double_face-in-2.ensures
-    (with_items_is c.self.inside.y_low c.double_face-in-2.new.into (c.double_face-in-2.auto.into ∙ c.as_mut_slice-in-2.ensures.len))
-
-pub invariant_of-self-in-2 : goal.invariant_of-self-in-2
-invariant_of-self-in-2 c = (y_low_doubled c).full
-
-pub returns-in-2-clause-values : goal.returns-in-2-clause-values
-returns-in-2-clause-values c = (y_low_doubled c).is
-
-y_high_doubled : (c : goal.After-self-in-3-1)
-    → IsLaid c.args.self.now (record (walls_in c.self.inside) { y_high = (with_items c.self.inside.y_high c.double_face-in-3.new.into).items }) c.args.face (doubled_face c.args.cells.now c.args.of_face c.args.half_a c.args.half_b)
-unfolding with_wall
-y_high_doubled c =
-    let side : Walls → ℕ = λ w. w.side in
-    doubled c.args.self.now c.args.face c.args.cells.now c.args.of_face c.args.half_a c.args.half_b (λ wall. record (walls_in c.self.inside) { y_high = wall })
-    c.self.inside.side c.values-values.result.now c.double_face-in-3.new.into (with_items c.self.inside.y_high c.double_face-in-3.new.into).items
-    (λ wall. rw (← c.self.view_is, c.in-3.is) refl) (subst IsShell c.self.view_is c.self.invariant) c.values-values.ensures.valid c.requires.sides
-    (ap side c.self.view_is) c.values-values.ensures.values c.double_face-in-3.ensures
-    (with_items_is c.self.inside.y_high c.double_face-in-3.new.into (c.double_face-in-3.auto.into ∙ c.as_mut_slice-in-3.ensures.len))
-
-pub invariant_of-self-in-3 : goal.invariant_of-self-in-3
-invariant_of-self-in-3 c = (y_high_doubled c).full
-
-pub returns-in-3-clause-values : goal.returns-in-3-clause-values
-returns-in-3-clause-values c = (y_high_doubled c).is
-
-z_low_doubled : (c : goal.After-self-in-4-1)
-    → IsLaid c.args.self.now (record (walls_in c.self.inside) { z_low = (with_items c.self.inside.z_low c.double_face-in-4.new.into).items }) c.args.face (doubled_face c.args.cells.now c.args.of_face c.args.half_a c.args.half_b)
-unfolding with_wall
-z_low_doubled c =
-    let side : Walls → ℕ = λ w. w.side in
-    doubled c.args.self.now c.args.face c.args.cells.now c.args.of_face c.args.half_a c.args.half_b (λ wall. record (walls_in c.self.inside) { z_low = wall })
-    c.self.inside.side c.values-values.result.now c.double_face-in-4.new.into (with_items c.self.inside.z_low c.double_face-in-4.new.into).items
-    (λ wall. rw (← c.self.view_is, c.in-4.is) refl) (subst IsShell c.self.view_is c.self.invariant) c.values-values.ensures.valid c.requires.sides
-    (ap side c.self.view_is) c.values-values.ensures.values c.double_face-in-4.ensures
-    (with_items_is c.self.inside.z_low c.double_face-in-4.new.into (c.double_face-in-4.auto.into ∙ c.as_mut_slice-in-4.ensures.len))
-
-pub invariant_of-self-in-4 : goal.invariant_of-self-in-4
-invariant_of-self-in-4 c = (z_low_doubled c).full
-
-pub returns-in-4-clause-values : goal.returns-in-4-clause-values
-returns-in-4-clause-values c = (z_low_doubled c).is
-
-z_high_doubled : (c : goal.After-self-in_default-1)
-    → IsLaid c.args.self.now (record (walls_in c.self.inside) { z_high = (with_items c.self.inside.z_high c.double_face-in_default.new.into).items }) c.args.face (doubled_face c.args.cells.now c.args.of_face c.args.half_a c.args.half_b)
-unfolding with_wall
-z_high_doubled c =
-    let side : Walls → ℕ = λ w. w.side in
-    let last : c.args.face ≡ 5 = omega arith in
-    doubled c.args.self.now c.args.face c.args.cells.now c.args.of_face c.args.half_a c.args.half_b (λ wall. record (walls_in c.self.inside) { z_high = wall })
-    c.self.inside.side c.values-values.result.now c.double_face-in_default.new.into (with_items c.self.inside.z_high c.double_face-in_default.new.into).items
-    (λ wall. rw (← c.self.view_is, last) refl) (subst IsShell c.self.view_is c.self.invariant) c.values-values.ensures.valid c.requires.sides
-    (ap side c.self.view_is) c.values-values.ensures.values c.double_face-in_default.ensures
-    (with_items_is c.self.inside.z_high c.double_face-in_default.new.into (c.double_face-in_default.auto.into ∙ c.as_mut_slice-in_default.ensures.len))
-
-pub invariant_of-self-in_default : goal.invariant_of-self-in_default
-invariant_of-self-in_default c = (z_high_doubled c).full
-
-pub returns-in_default-clause-values : goal.returns-in_default-clause-values
-returns-in_default-clause-values c = (z_high_doubled c).is
+pub returns-clause-values : goal.returns-clause-values
+returns-clause-values c = (doubled c).is

@@ -41,13 +41,12 @@ lay_coarser-requires c =
     let found = c.leaf_with.result.now in
     cells_fit m.case.now m.leaves.now found.0 found.1 site.charted.map.map c.leaf_with.ensures.found ∙ sym c.requires.side
 
-pub set_wall-requires-clause-sides : goal.set_wall-requires-clause-sides
-set_wall-requires-clause-sides c =
+pub set_wall-requires : goal.set_wall-requires
+set_wall-requires c =
     let m = c.args.self in
-    let s = c.args.site.now in
     let site = c.requires.site in
     let found = c.leaf_with.result.now in
-    cells_fit m.case.now m.leaves.now found.0 found.1 site.charted.map.map c.leaf_with.ensures.found ∙ sym c.requires.side
+    record { sides = cells_fit m.case.now m.leaves.now found.0 found.1 site.charted.map.map c.leaf_with.ensures.found ∙ sym c.requires.side }
 
 pub returns-then-level-2-clause-face : goal.returns-then-level-2-clause-face
 returns-then-level-2-clause-face c =
@@ -77,8 +76,8 @@ returns-else-level-2-clause-face c =
     c.across-unit.ensures c.leaf_with.ensures.found c.leaf_with.ensures.holds in
     let level : level_of found.0 ≡ level_of s.id =
     omega (arith, c.level.ensures.level, c.level-2.ensures.level, c.level-else-level.ensures.level, c.level-else-level-2.ensures.level, c.if-level.false, c.if-level-2.false) in
-    let is = rw (c.number.ensures, c.number-else-level-2.ensures, c.opposite.ensures) at c.set_wall.ensures.values in
+    let is = rw c.opposite.ensures at c.set_wall.ensures.values in
     same_holds m.case.now m.leaves.now m.atlas.now s.id found.0 s.cells.now found.1 s.block c.args.face c.args.shell.now _ site crossing.lies level c.requires.side is
 
 pub returns-else-level-2-clause-others : goal.returns-else-level-2-clause-others
-returns-else-level-2-clause-others c = keeps c.args.shell.now _ c.args.face _ (rw c.number.ensures at c.set_wall.ensures.values)
+returns-else-level-2-clause-others c = keeps c.args.shell.now _ c.args.face _ c.set_wall.ensures.values

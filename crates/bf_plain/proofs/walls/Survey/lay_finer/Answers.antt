@@ -39,12 +39,12 @@ loop-quarter-preserved c =
     let inner = inner_face m.case.now m.leaves.now m.atlas.now s.id s.cells.now s.block c.args.face site c.requires.finer in
     let lies = lies_across m.case.now m.leaves.now m.atlas.now s.id s.cells.now s.block c.args.face (quarter % 2 * (s.block.edge / 2)) (quarter / 2 * (s.block.edge / 2))
     c.across_quarter-unit.result found site inner c.across_quarter-unit.ensures c.leaf_with.ensures.found c.leaf_with.ensures.holds in
-    let is = rw (c.number.ensures, c.number-in-loop-quarter.ensures, c.opposite.ensures) at c.set_quarter_means.ensures.values in
+    let is = rw c.opposite.ensures at c.set_quarter_means.ensures.values in
     record {
       side = c.set_quarter_means.ensures.side ∙ c.loop-quarter.invariant.side;
       held = one_quarter_more m.case.now m.leaves.now m.atlas.now s.id found.0 s.cells.now found.1 s.block c.args.face quarter c.loop-quarter.shell _ site c.requires.finer
           (omega arith) c.loop-quarter.invariant.side lies is c.loop-quarter.invariant.held;
-      others = keeps_twice c.args.shell.now c.loop-quarter.shell _ c.args.face c.loop-quarter.invariant.others (keeps c.loop-quarter.shell _ c.args.face _ is);
+      others = keeps_twice c.args.shell.now c.loop-quarter.shell c.set_quarter_means.new.self c.args.face c.loop-quarter.invariant.others (keeps c.loop-quarter.shell c.set_quarter_means.new.self c.args.face _ is);
     }
 
 pub returns-clause-face : goal.returns-clause-face

@@ -1,4 +1,4 @@
-use Rattle.std.proofs.Common.{◌≡◌, ◌<◌, ℕ, sym, subst, ◌∙◌, ap, arith, length, get_or, map}
+use Rattle.std.proofs.Common.{◌<◌, ℕ, sym, subst, arith, length, get_or, map}
 use Rattle.std.proofs.lemmas.List.{get_or-map, length-map}
 use Rattle.bf_id.specs.Cube.{Holds}
 use Rattle.bf_id.specs.Id.{BlockId, box_of, root_id}

@@ -1,9 +1,10 @@
 use Rattle.std.proofs.Common.{◌≡◌}
-use Rattle.bf_plain.proofs.SiteLemmas.{FacesHold}
+use Rattle.bf_face.proofs.FaceLemmas.{HoldsOfFirst}
+use Rattle.bf_case.specs.Beside.{HoldsBeside}
 use Rattle.bf_plain.proofs.walls.Survey.surround.Given as goal
 
-abbrev pub invariant-loop-number : goal.invariant-loop-number
-invariant-loop-number l = record {
+abbrev pub invariant-loop-face : goal.invariant-loop-face
+invariant-loop-face l = record {
   side : l.shell.side ≡ l.fn.shell.side;
-  held : FacesHold l.self.case.now.roots l.self.leaves.now l.site.id l.site.cells.now l.shell l.number;
+  held : HoldsOfFirst (HoldsBeside l.self.case.now.roots l.self.leaves.now l.site.id l.site.cells.now l.shell) l.face-index;
 }
