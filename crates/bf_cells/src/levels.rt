@@ -43,6 +43,7 @@ fn double_cells(values: &[u32], side: usize, x0: usize, y: usize, z: usize, into
 }
 
 // One row of a face, from its cell a0 on, each cell twice.
+#[tactic(auto, unfolding(crate::specs::Shell::face_cell))]
 fn double_face_row(values: &[u32], side: usize, face: Face, a0: usize, b: usize, into: &mut [u32])
     requires even { side % 2 ≡ 0 }
     requires high { side ≤ 16 }
@@ -130,6 +131,7 @@ fn mean_column(values: &[u32], side: usize, x: usize, z: usize, into: &mut [u32]
 }
 
 // A row of the means next to a face.
+#[tactic(auto, unfolding(crate::specs::Levels::face_mean, crate::specs::Octant::part_mean))]
 fn mean_face_row(values: &[u32], side: usize, face: Face, b: usize, into: &mut [u32])
     requires even { side % 2 ≡ 0 }
     requires high { side ≤ 16 }
