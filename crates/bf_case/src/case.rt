@@ -44,7 +44,7 @@ pub struct Case {
 }
 
 /// The greatest number of cells in a whole domain of finest blocks.
-const CELL_LIMIT: u64 = 2_097_152;
+pub const CELL_LIMIT: u64 = 2_097_152;
 
 impl Case {
     ghost use Rattle.std.specs.Prelude.{◌≤◌, ◌≡◌, ◌<◌, ◌↔◌, IsTrue};

@@ -16,9 +16,10 @@ mod target;
 mod validity;
 
 pub use bf_items::Items;
-pub use case::{Case, Fill};
+pub use case::{CELL_LIMIT, Case, Fill};
 pub use filling::{fill_root, filled_root};
 pub use leaf::AsLeaf;
 pub use map::Map;
 pub use neighbours::{RootCells, surround};
 pub use target::Target;
+pub use validity::cells_of;

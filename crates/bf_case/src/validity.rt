@@ -22,10 +22,12 @@ pub fn is_shape(shape: Shape) -> bool
 
 /// How many roots the domain has.
 pub fn roots_of(shape: Shape) -> u32
-    requires { IsShape shape }
+    requires few_x { shape.nx ≤ 16 }
+    requires few_y { shape.ny ≤ 16 }
+    requires few_z { shape.nz ≤ 16 }
     ensures exact { result ≡ root_count shape }
-    ensures some { 0 < result }
     ensures few { result ≤ 4096 }
+    ensures some { IsShape shape → 0 < result }
 {
     shape.nx * (shape.ny * shape.nz)
 }
@@ -49,7 +51,9 @@ fn cells_of_block(side: u32) -> u64
 
 /// How many cells the domain has where all its blocks are of the finest level.
 pub fn cells_of(shape: Shape, side: u32, levels: u32) -> u64
-    requires shape { IsShape shape }
+    requires few_x { shape.nx ≤ 16 }
+    requires few_y { shape.ny ≤ 16 }
+    requires few_z { shape.nz ≤ 16 }
     requires narrow { side ≤ 16 }
     requires shallow { levels ≤ 4 }
     ensures { result ≡ root_count shape * 8 ^ levels * (side * side * side) }

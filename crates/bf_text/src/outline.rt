@@ -18,10 +18,8 @@ use crate::form::{Form, is_word};
 use crate::head::Head;
 use crate::lines::{is_plain, next_word};
 use crate::numbers::{are_numbers, count_words};
+use bf_case::{CELL_LIMIT, cells_of};
 use bf_id::Shape;
-
-/// The greatest number of cells in a whole domain of finest blocks.
-const CELL_LIMIT: u64 = 2_097_152;
 
 /// The most ranks that a case has.
 pub const RANKS: usize = 16;
@@ -58,33 +56,6 @@ fn due_place(form: Form) -> u32
         Form::Other => 0,
         _ => form.place().min(13),
     }
-}
-
-fn roots_of(shape: Shape) -> u32
-    requires x { shape.nx ≤ 16 }
-    requires y { shape.ny ≤ 16 }
-    requires z { shape.nz ≤ 16 }
-    ensures exact { result ≡ root_count shape }
-    ensures few { result ≤ 4096 }
-{
-    shape.nx * (shape.ny * shape.nz)
-}
-
-fn blocks_of_root(levels: u32) -> u64
-    requires { levels ≤ 4 }
-    ensures exact { result ≡ 8 ^ levels }
-    ensures few { result ≤ 4096 }
-{
-    8u64.pow(levels)
-}
-
-fn cells_of_block(side: u32) -> u64
-    requires { side ≤ 16 }
-    ensures exact { result ≡ side * side * side }
-    ensures few { result ≤ 4096 }
-{
-    let side = u64::from(side);
-    side * side * side
 }
 
 /// The cause where the test holds.
@@ -219,8 +190,7 @@ impl Outline {
         ensures { result ≡ nat_lt cell_limit (root_count self.now.head.roots * 8 ^ levels
             * (self.now.head.side * self.now.head.side * self.now.head.side)) }
     {
-        let blocks = u64::from(roots_of(self.head.roots)) * blocks_of_root(levels);
-        blocks * cells_of_block(self.head.side) > CELL_LIMIT
+        cells_of(self.head.roots, self.head.side, levels) > CELL_LIMIT
     }
 
     fn holds_fill(&self, numbers: &[u32]) -> bool
