@@ -1,7 +1,7 @@
 -- Who has arrived broken or has ended, in every state that a journal leads to.
 use Rattle.std.proofs.Common.{List, ◌≡◌, ℕ, Bool, true, false, ◌&&◌, length, arith, refl, sym, subst, ◌∙◌, ap, inl, inr}
 use Rattle.std.specs.Prelude.{◌==◌, Option, Some, None, is_some, if◌then◌else◌}
-use Rattle.std.proofs.lemmas.Bool.{cases_eq}
+use Rattle.std.proofs.lemmas.Bool.{cases_eq, and_parts}
 use Rattle.std.proofs.lemmas.List.{length-set}
 use Rattle.bf_core.specs.declared.decision.Decision.{Decision}
 use Rattle.bf_core.specs.declared.decision.Decision.TheVariants.{Lose, WantMemory, Commit, Restore}
@@ -19,7 +19,7 @@ use Rattle.bf_core.specs.States.{State, opening, stage, is_active, has_dead_memb
 use Rattle.bf_core.specs.Legal.{is_legal, waits, actor}
 use Rattle.bf_core.specs.Next.{with_stage, may_decide, happened, is_ripe, decision, decided, settled, ended, committed, next}
 use Rattle.bf_core.proofs.StageLemmas.{Someone, someone, is_rank, stage_same, stage_dissolved}
-use Rattle.bf_core.proofs.SoundLemmas.{first_of_two, acting, in_list, leaving_stage, opening_fails}
+use Rattle.bf_core.proofs.SoundLemmas.{acting, in_list, leaving_stage, opening_fails}
 use Rattle.bf_core.proofs.LawLemmas.{IsStep, step_of, IsSameEpoch, same_epoch, next_settles, next_happens, ripe_decides, unripe_waits, running_where_ripe}
 
 -- whether a rank has arrived broken
@@ -79,29 +79,25 @@ data NewStage (state : State) (event : Event) (filled : Bool) : Type 0 where
   IsBroken : has_dead_member state ≡ true → has_ended (stage (happened state event filled) (actor event)) ≡ false → NewStage state event filled
   HasEnded : (outcome : Outcome) → state.outcome ≡ Some outcome → is_broken (stage (happened state event filled) (actor event)) ≡ false → NewStage state event filled
 
-second_of_two : (a b : Bool) → (a && b) ≡ true → b ≡ true
-second_of_two true b holds = holds
-second_of_two false b holds = absurd (cc)
-
 quiet_at : (state : State) (event : Event) (filled : Bool) (to : Stage) → stage (happened state event filled) (actor event) ≡ to → is_broken to ≡ false → has_ended to ≡ false
     → NewStage state event filled
 quiet_at state event filled to its unbroken unended = IsQuiet (ap is_broken its ∙ unbroken) (ap has_ended its ∙ unended)
 
 new_stage : (state : State) (event : Event) (place : Place) (filled : Bool) → is_legal state event place ≡ true → NewStage state event filled
 new_stage state (Send rank to blocks sum) place filled legal =
-    let runs : stage state rank ≡ Running = acting state rank (first_of_two (is_active state rank) _ legal) in
+    let runs : stage state rank ≡ Running = acting state rank (and_parts (is_active state rank) _ legal).0 in
     quiet_at state (Send rank to blocks sum) filled Running (stage_same state rank (stage state rank) (in_list state rank runs) ∙ runs) refl refl
 new_stage state (Recv rank peer) place filled legal =
     let runs : stage state rank ≡ Running =
-    acting state rank (first_of_two (is_active state rank) _ (first_of_two (is_active state rank && is_just (next_receive place) peer) _ legal)) in
+    acting state rank (and_parts (is_active state rank) _ (and_parts (is_active state rank && is_just (next_receive place) peer) _ legal).0).0 in
     quiet_at state (Recv rank peer) filled Running (stage_same state rank (stage state rank) (in_list state rank runs) ∙ runs) refl refl
 new_stage state (Arrive rank hows.Done) place filled legal =
-    let runs : stage state rank ≡ Running = acting state rank (first_of_two (is_active state rank) _ legal) in
+    let runs : stage state rank ≡ Running = acting state rank (and_parts (is_active state rank) _ legal).0 in
     quiet_at state (Arrive rank hows.Done) filled (Arrived hows.Done filled) (stage_same state rank (Arrived hows.Done filled) (in_list state rank runs)) refl refl
 new_stage state (Arrive rank hows.Broken) place filled legal =
     let runs : stage state rank ≡ Running =
-    acting state rank (first_of_two (is_active state rank) _ (first_of_two (is_active state rank && waits state rank place) _ legal)) in
-    IsBroken (second_of_two (is_active state rank && waits state rank place) _ legal)
+    acting state rank (and_parts (is_active state rank) _ (and_parts (is_active state rank && waits state rank place) _ legal).0).0 in
+    IsBroken (and_parts (is_active state rank && waits state rank place) _ legal).1
     (ap has_ended (stage_same state rank (Arrived hows.Broken false) (in_list state rank runs)))
 new_stage state (Arrive rank hows.Memory) place filled legal =
     let runs : stage state rank ≡ Running = acting state rank legal in
@@ -109,7 +105,7 @@ new_stage state (Arrive rank hows.Memory) place filled legal =
 new_stage state (Leave rank) place filled legal = by_outcome state.outcome refl
   where
     leaving : stage state rank ≡ Leaving
-    leaving = leaving_stage state rank (first_of_two (is_leaving (stage state rank)) _ legal)
+    leaving = leaving_stage state rank (and_parts (is_leaving (stage state rank)) _ legal).0
 
     put : (to : Stage) → stage (with_stage state rank to) rank ≡ to
     put to = stage_same state rank to (is_rank is_leaving state rank refl (ap is_leaving leaving))
@@ -124,7 +120,7 @@ new_stage state (Leave rank) place filled legal = by_outcome state.outcome refl
         (put (if is_some state.outcome then Ended else Running) ∙ ap (λ o. if is_some o then Ended else Running) none) refl refl
 new_stage state (Die rank) place filled legal =
     quiet_at state (Die rank) filled Dead
-    (stage_same state rank Dead (is_rank goes_on state rank refl (first_of_two (goes_on (stage state rank)) _ legal))) refl refl
+    (stage_same state rank Dead (is_rank goes_on state rank refl (and_parts (goes_on (stage state rank)) _ legal).0)) refl refl
 
 pub happened_fair : (state : State) (event : Event) (place : Place) (filled : Bool) → is_legal state event place ≡ true → IsFair state → IsFair (happened state event filled)
 happened_fair state event place filled legal fair = record { broken = still_broken; unended = still_unended }

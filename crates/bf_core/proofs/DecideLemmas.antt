@@ -3,7 +3,7 @@ use Rattle.std.proofs.Common.{◌≡◌, ℕ, suc, ◌<◌, Bool, true, false, �
 use Rattle.std.specs.Prelude.{◌==◌, ◌↔◌, Option, Some, None, if◌then◌else◌}
 use Rattle.std.specs.List.{list_all, range_with_len}
 use Rattle.std.proofs.Math.ListN.{get_or}
-use Rattle.std.proofs.lemmas.Bool.{eqb-true, eq-eqb}
+use Rattle.std.proofs.lemmas.Bool.{eqb-true, eq-eqb, not-true}
 use Rattle.bf_buddy.specs.Members.{is_member}
 use Rattle.bf_core.specs.declared.decision.Decision.{Decision}
 use Rattle.bf_core.specs.declared.decision.Decision.TheVariants.{Lose, WantMemory, Commit, Restore}
@@ -109,13 +109,8 @@ module _ (state : State) (event : Event) (place : Place) (filled : Bool) (reache
   -- a member is not gone
   member_here : (rank : ℕ) → is_member state.epoch.members rank ≡ true → is_gone (stage (happened state event filled) rank) ≡ false
   member_here rank member =
-      gone_before rank ∙ unnot (is_gone (stage state rank)) (passes (λ r. not (is_gone (stage state r))) (range_with_len 0 state.ranks) rank
+      gone_before rank ∙ not-true (is_gone (stage state rank)) (passes (λ r. not (is_gone (stage state r))) (range_with_len 0 state.ranks) rank
       (ap (λ members. is_member members rank) (sym (members_remain state reached none)) ∙ member))
-    where
-      unnot : (b : Bool) → not b ≡ true → b ≡ false
-      unnot true still = absurd (cc)
-      unnot false _ = refl
-
   -- who is not gone is a member
   here_member : (rank : ℕ) → is_gone (stage (happened state event filled) rank) ≡ false → is_member state.epoch.members rank ≡ true
   here_member rank here =

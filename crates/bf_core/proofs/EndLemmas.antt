@@ -2,6 +2,7 @@
 use Rattle.std.proofs.Common.{◌≡◌, ℕ, ◌<◌, Bool, true, false, ◌&&◌, ◌||◌, not, List, [], ◌∷◌, filter, length, refl, sym, subst, ◌∙◌, ap}
 use Rattle.std.specs.Prelude.{◌==◌, Option, Some, None, is_some, if◌then◌else◌}
 use Rattle.std.specs.List.{list_any}
+use Rattle.std.proofs.lemmas.Bool.{not-true, and_from, and_parts}
 use Rattle.bf_buddy.specs.Members.{is_member}
 use Rattle.bf_buddy.specs.Losses.{first_lost_of}
 use Rattle.bf_core.specs.declared.decision.Decision.{Decision}
@@ -22,8 +23,8 @@ use Rattle.bf_core.specs.Journals.{Move, after, are_legal}
 use Rattle.bf_core.specs.Orders.{IsReached}
 use Rattle.bf_core.proofs.ListLemmas.{all_at}
 use Rattle.bf_core.proofs.StageLemmas.{nobody, Someone, Nobody, someone, nobody_any, is_rank, stage_same, stage_dissolved}
-use Rattle.bf_core.proofs.SoundLemmas.{first_of_two, commit_when_done, opening_runs, acting, in_list, leaving_stage}
-use Rattle.bf_core.proofs.LawLemmas.{Losses, IsStep, step_of, second_of_two, same_epoch, next_settles, next_happens, ripe_decides, unripe_waits, restore_when_whole}
+use Rattle.bf_core.proofs.SoundLemmas.{commit_when_done, opening_runs, acting, in_list, leaving_stage}
+use Rattle.bf_core.proofs.LawLemmas.{Losses, IsStep, step_of, same_epoch, next_settles, next_happens, ripe_decides, unripe_waits, restore_when_whole}
 use Rattle.bf_core.proofs.ArrivalLemmas.{IsFair, has_ended, happened_fair, next_fair, opening_fair}
 
 -- while the run has no end, nobody is left only where nothing that is stored is lost to the dead
@@ -51,10 +52,6 @@ awaited_goes Ended still = absurd (cc)
 awaited_goes Dead still = absurd (cc)
 awaited_goes Gone still = absurd (cc)
 
-both : (a b : Bool) → a ≡ true → b ≡ true → (a && b) ≡ true
-both true b is_a is_b = is_b
-both false b is_a is_b = absurd (cc)
-
 -- a run that goes on and is not to be decided has a rank that goes on
 unripe_goes : (state : State) → is_ripe state ≡ false → state.outcome ≡ None → Nobody goes_on state → ⊥
 unripe_goes state unripe none nobody_goes = by_any (list_any (λ s. is_awaited s.stage) state.standings) refl
@@ -64,20 +61,20 @@ unripe_goes state unripe none nobody_goes = by_any (list_any (λ s. is_awaited s
         let one : Someone is_awaited state = someone is_awaited state some in
         let e : true ≡ false = sym (awaited_goes (stage state one.0) one.1.1) ∙ nobody_goes one.0 in cc
     by_any false nobody_awaited =
-        let e : true ≡ false = sym (both _ _ (ap (λ o. not (is_some o)) none) (ap not nobody_awaited)) ∙ unripe in cc
+        let e : true ≡ false = sym (and_from _ _ (ap (λ o. not (is_some o)) none) (ap not nobody_awaited)) ∙ unripe in cc
 
 -- who acts without bringing a decision goes on
 quiet_goes : (state : State) (event : Event) (place : Place) (filled : Bool) → is_legal state event place ≡ true → may_decide event ≡ false → state.outcome ≡ None
     → goes_on (stage (happened state event filled) (actor event)) ≡ true
 quiet_goes state (Send rank to blocks sum) place filled legal quiet none =
-    let runs : stage state rank ≡ Running = acting state rank (first_of_two (is_active state rank) _ legal) in
+    let runs : stage state rank ≡ Running = acting state rank (and_parts (is_active state rank) _ legal).0 in
     ap goes_on (stage_same state rank (stage state rank) (in_list state rank runs) ∙ runs)
 quiet_goes state (Recv rank peer) place filled legal quiet none =
-    let runs : stage state rank ≡ Running = acting state rank (first_of_two (is_active state rank) _ (first_of_two (is_active state rank && is_just (next_receive place) peer) _ legal)) in
+    let runs : stage state rank ≡ Running = acting state rank (and_parts (is_active state rank) _ (and_parts (is_active state rank && is_just (next_receive place) peer) _ legal).0).0 in
     ap goes_on (stage_same state rank (stage state rank) (in_list state rank runs) ∙ runs)
 quiet_goes state (Arrive rank how) place filled legal quiet none = absurd (cc)
 quiet_goes state (Leave rank) place filled legal quiet none =
-    let leaving : stage state rank ≡ Leaving = leaving_stage state rank (first_of_two (is_leaving (stage state rank)) _ legal) in
+    let leaving : stage state rank ≡ Leaving = leaving_stage state rank (and_parts (is_leaving (stage state rank)) _ legal).0 in
     ap goes_on (stage_same state rank _ (is_rank is_leaving state rank refl (ap is_leaving leaving)) ∙ ap (λ o. if is_some o then Ended else Running) none)
 quiet_goes state (Die rank) place filled legal quiet none = absurd (cc)
 
@@ -104,12 +101,7 @@ restored_alone state ripe fair whole none nobody_goes =
     ap (λ live. first_lost_of state.epoch.homes state.stored live state.shift) (sym (filter_none (λ rank. lives (stage state rank)) state.epoch.members dead)) ∙ whole
   where
     unawaited : Nobody is_awaited state
-    unawaited = nobody_any is_awaited state refl (unnot _ (second_of_two (not (is_some state.outcome)) (not (list_any (λ s. is_awaited s.stage) state.standings)) ripe))
-      where
-        unnot : (b : Bool) → not b ≡ true → b ≡ false
-        unnot true still = absurd (cc)
-        unnot false _ = refl
-
+    unawaited = nobody_any is_awaited state refl (not-true _ (and_parts (not (is_some state.outcome)) (not (list_any (λ s. is_awaited s.stage) state.standings)) ripe).1)
     dead : (rank : ℕ) → lives (stage state rank) ≡ false
     dead rank = by_life (lives (stage state rank)) refl
       where
@@ -155,9 +147,9 @@ after_left : (state : State) (moves : List Move) → IsFair state → HasNoneLef
 after_left state [] fair left legal = (fair, left)
 after_left state (move ∷ moves) fair left legal =
     after_left (next state move.event move.filled) moves
-    (next_fair state move.event move.place move.filled (first_of_two (is_legal state move.event move.place) _ legal) fair)
-    (next_left state move.event move.place move.filled (first_of_two (is_legal state move.event move.place) _ legal) fair)
-    (second_of_two (is_legal state move.event move.place) _ legal)
+    (next_fair state move.event move.place move.filled (and_parts (is_legal state move.event move.place) _ legal).0 fair)
+    (next_left state move.event move.place move.filled (and_parts (is_legal state move.event move.place) _ legal).0 fair)
+    (and_parts (is_legal state move.event move.place) _ legal).1
 
 reached_left : (state : State) → IsReached state → HasNoneLeft state
 reached_left state reached = subst HasNoneLeft (sym reached.reached)
@@ -176,12 +168,7 @@ pub has_end : Losses → (state : State) → IsReached state → is_finished sta
 has_end losses state reached finished home is_home stored = by_outcome state.outcome refl
   where
     nobody_goes : Nobody goes_on state
-    nobody_goes = nobody_any goes_on state refl (unnot _ finished)
-      where
-        unnot : (b : Bool) → not b ≡ true → b ≡ false
-        unnot true still = absurd (cc)
-        unnot false _ = refl
-
+    nobody_goes = nobody_any goes_on state refl (not-true _ finished)
     by_outcome : (o : Option Outcome) → state.outcome ≡ o → is_some o ≡ true
     by_outcome (Some outcome) _ = refl
     by_outcome None none =

@@ -2,7 +2,7 @@
 use Rattle.std.proofs.Common.{◌≡◌, ℕ, ◌<◌, Bool, true, false, cond, ◌&&◌, ◌||◌, not, List, [], ◌∷◌, filter, length, refl, sym, subst, ◌∙◌, ap, inl, inr}
 use Rattle.std.specs.Prelude.{◌==◌, ◌↔◌, Option, Some, None, is_some, if◌then◌else◌}
 use Rattle.std.proofs.Math.ListN.{get_or}
-use Rattle.std.proofs.lemmas.Bool.{cases_eq, eqb-true}
+use Rattle.std.proofs.lemmas.Bool.{cases_eq, eqb-true, and_parts, or_left, or_right, not-true}
 use Rattle.std.proofs.lemmas.List.Elements.{filter_passes}
 use Rattle.bf_buddy.specs.Members.{is_member}
 use Rattle.bf_buddy.specs.Buddy.{buddy_of}
@@ -27,7 +27,7 @@ use Rattle.bf_core.specs.Orders.{IsReached}
 use Rattle.bf_core.specs.Laws.{IsFinal, LosesAt, remaining, OnlyLoses, Undecided, HasLost}
 use Rattle.bf_core.proofs.ListLemmas.{found, all_at}
 use Rattle.bf_core.proofs.StageLemmas.{nobody, is_rank}
-use Rattle.bf_core.proofs.SoundLemmas.{IsSound, IsMoved, moved_stage, same_tests, first_of_two, acting, in_list, leaving_stage, not_gone, reached_sound, commit_when_done}
+use Rattle.bf_core.proofs.SoundLemmas.{IsSound, IsMoved, moved_stage, same_tests, acting, in_list, leaving_stage, not_gone, reached_sound, commit_when_done}
 
 -- an ended run is decided no more
 settled_end : (state : State) (outcome : Outcome) → state.outcome ≡ Some outcome → settled state ≡ state
@@ -117,10 +117,6 @@ finished_where_not_gone s done stays = by_gone (is_gone s) stays done
     by_gone true gone _ = absurd (cc)
     by_gone false _ finished = finished
 
-no : (b : Bool) → not b ≡ true → b ≡ false
-no true h = absurd (cc)
-no false h = refl
-
 -- what a legal event does to the stages
 pub record IsStep (state : State) (event : Event) (filled : Bool) : Type 0 where
   pub to : Stage
@@ -141,26 +137,26 @@ active_step state rank active = let runs : stage state rank ≡ Running = acting
 
 pub step_of : (state : State) (event : Event) (place : Place) (filled : Bool) → is_legal state event place ≡ true → IsStep state event filled
 step_of state (Send rank to blocks sum) place filled legal =
-    let at : (rank < length state.standings) × (goes_on (stage state rank) ≡ true) = active_step state rank (first_of_two (is_active state rank) _ legal) in
+    let at : (rank < length state.standings) × (goes_on (stage state rank) ≡ true) = active_step state rank (and_parts (is_active state rank) _ legal).0 in
     let moved : IsMoved state (with_stage state rank (stage state rank)) rank (stage state rank) = moved_stage state rank (stage state rank) at.0 in
     record { to = stage state rank; moved = record { its = moved.its; others = moved.others }; went = at.1; stays = not_gone (stage state rank) at.1 }
 step_of state (Recv rank peer) place filled legal =
     let at : (rank < length state.standings) × (goes_on (stage state rank) ≡ true) =
-    active_step state rank (first_of_two (is_active state rank) _ (first_of_two (is_active state rank && is_just (next_receive place) peer) _ legal)) in
+    active_step state rank (and_parts (is_active state rank) _ (and_parts (is_active state rank && is_just (next_receive place) peer) _ legal).0).0 in
     let moved : IsMoved state (with_stage state rank (stage state rank)) rank (stage state rank) = moved_stage state rank (stage state rank) at.0 in
     record { to = stage state rank; moved = record { its = moved.its; others = moved.others }; went = at.1; stays = not_gone (stage state rank) at.1 }
 step_of state (Arrive rank hows.Done) place filled legal =
-    let at : (rank < length state.standings) × (goes_on (stage state rank) ≡ true) = active_step state rank (first_of_two (is_active state rank) _ legal) in
+    let at : (rank < length state.standings) × (goes_on (stage state rank) ≡ true) = active_step state rank (and_parts (is_active state rank) _ legal).0 in
     record { to = Arrived hows.Done filled; moved = moved_stage state rank (Arrived hows.Done filled) at.0; went = at.1; stays = refl }
 step_of state (Arrive rank hows.Broken) place filled legal =
     let at : (rank < length state.standings) × (goes_on (stage state rank) ≡ true) =
-    active_step state rank (first_of_two (is_active state rank) _ (first_of_two (is_active state rank && waits state rank place) _ legal)) in
+    active_step state rank (and_parts (is_active state rank) _ (and_parts (is_active state rank && waits state rank place) _ legal).0).0 in
     record { to = Arrived hows.Broken false; moved = moved_stage state rank (Arrived hows.Broken false) at.0; went = at.1; stays = refl }
 step_of state (Arrive rank hows.Memory) place filled legal =
     let at : (rank < length state.standings) × (goes_on (stage state rank) ≡ true) = active_step state rank legal in
     record { to = Arrived hows.Memory false; moved = moved_stage state rank (Arrived hows.Memory false) at.0; went = at.1; stays = refl }
 step_of state (Leave rank) place filled legal =
-    let leaving : stage state rank ≡ Leaving = leaving_stage state rank (first_of_two (is_leaving (stage state rank)) _ legal) in
+    let leaving : stage state rank ≡ Leaving = leaving_stage state rank (and_parts (is_leaving (stage state rank)) _ legal).0 in
     record {
       to = if is_some state.outcome then Ended else Running;
       moved = moved_stage state rank _ (is_rank is_leaving state rank refl (ap is_leaving leaving));
@@ -172,7 +168,7 @@ step_of state (Leave rank) place filled legal =
     by_end true = refl
     by_end false = refl
 step_of state (Die rank) place filled legal =
-    let goes : goes_on (stage state rank) ≡ true = first_of_two (goes_on (stage state rank)) _ legal in
+    let goes : goes_on (stage state rank) ≡ true = (and_parts (goes_on (stage state rank)) _ legal).0 in
     record { to = Dead; moved = moved_stage state rank Dead (is_rank goes_on state rank refl goes); went = goes; stays = refl }
 
 -- an event keeps a rank gone, or not
@@ -204,7 +200,7 @@ same_epoch state (Leave rank) filled = record { epoch = refl; stored = refl; shi
 same_epoch state (Die rank) filled = record { epoch = refl; stored = refl; shift = refl; outcome = refl }
 
 pub running_where_ripe : (state : State) → is_ripe state ≡ true → state.outcome ≡ None
-running_where_ripe state ripe = by_outcome state.outcome (first_of_two (not (is_some state.outcome)) (has_everyone_arrived state) ripe)
+running_where_ripe state ripe = by_outcome state.outcome (and_parts (not (is_some state.outcome)) (has_everyone_arrived state) ripe).0
   where
     by_outcome : (o : Option Outcome) → not (is_some o) ≡ true → o ≡ None
     by_outcome (Some outcome) ended = absurd (cc)
@@ -219,7 +215,7 @@ commit_needs_members state event place filled sound legal ripe commits rank memb
     let same : IsSameEpoch state (happened state event filled) = same_epoch state event filled in
     let none : state.outcome ≡ None = sym same.outcome ∙ running_where_ripe (happened state event filled) ripe in
     let remains : is_member (remaining state) rank ≡ true = ap (λ members. is_member members rank) (sym (sound.members none)) ∙ member in
-    let here : is_gone (stage state rank) ≡ false = no _ (passes (λ r. not (is_gone (stage state r))) _ rank remains) in
+    let here : is_gone (stage state rank) ≡ false = not-true _ (passes (λ r. not (is_gone (stage state r))) _ rank remains) in
     finished_where_not_gone (stage (happened state event filled) rank)
     (all_at (λ s. is_gone s.stage || has_finished_rounds s.stage) (happened state event filled).standings rank nobody refl (commit_when_done (happened state event filled) commits))
     (gone_stays state event filled step rank ∙ here)
@@ -356,10 +352,6 @@ more_members : (test other : ℕ → Bool) (xs : List ℕ) (x : ℕ) → ((r : �
 more_members test other [] x weaker member = member
 more_members test other (y ∷ ys) x weaker member = at_first (more_members test other ys x weaker) (test y) refl (other y) refl member
   where
-    in_rest : (a b : Bool) → b ≡ true → (a || b) ≡ true
-    in_rest true b is_later = refl
-    in_rest false b is_later = is_later
-
     at_head : (is_member (filter test ys) x ≡ true → is_member (filter other ys) x ≡ true) → (b : Bool) → (b || is_member (filter test ys) x) ≡ true
         → (b || is_member (filter other ys) x) ≡ true
     at_head rest true is_now = refl
@@ -369,7 +361,7 @@ more_members test other (y ∷ ys) x weaker member = at_first (more_members test
         → is_member (cond a (y ∷ filter test ys) (filter test ys)) x ≡ true → is_member (cond b (y ∷ filter other ys) (filter other ys)) x ≡ true
     at_first rest true passes true also is_now = at_head rest (y == x) is_now
     at_first rest true passes false fails is_now = absurd (let e : true ≡ false = sym (weaker y passes) ∙ fails in cc)
-    at_first rest false fails true also is_now = in_rest (y == x) _ (rest is_now)
+    at_first rest false fails true also is_now = or_right (y == x) _ (rest is_now)
     at_first rest false fails false also is_now = rest is_now
 
 abbrev pub Losses : Type 0
@@ -382,18 +374,10 @@ stays_lost losses homes stored members shift before after weaker none =
     (losses homes stored (filter before members) shift).1 (λ home member is_filled.
     by_holder home (is_member (filter after members) home) refl ((losses homes stored (filter after members) shift).0 none home member is_filled))
   where
-    second_holds : (a b : Bool) → b ≡ true → (a || b) ≡ true
-    second_holds true b holds = refl
-    second_holds false b holds = holds
-
-    first_holds : (a b : Bool) → a ≡ true → (a || b) ≡ true
-    first_holds true b holds = refl
-    first_holds false b holds = absurd (cc)
-
     by_holder : (home : ℕ) (b : Bool) → is_member (filter after members) home ≡ b → (b || is_member (filter after members) (buddy_of homes home shift)) ≡ true
         → (is_member (filter before members) home || is_member (filter before members) (buddy_of homes home shift)) ≡ true
-    by_holder home true lives _ = first_holds _ _ (more_members after before members home weaker lives)
-    by_holder home false dead buddy = second_holds (is_member (filter before members) home) _ (more_members after before members (buddy_of homes home shift) weaker buddy)
+    by_holder home true lives _ = or_left _ _ (more_members after before members home weaker lives)
+    by_holder home false dead buddy = or_right (is_member (filter before members) home) _ (more_members after before members (buddy_of homes home shift) weaker buddy)
 
 -- what is lost before an event is lost after it, until a decision
 pub lost_after : Losses → (state : State) (event : Event) (filled : Bool) → IsStep state event filled → is_some (first_lost state) ≡ true
@@ -459,18 +443,14 @@ follows losses state event filled step none lost = by_event (may_decide event) r
     by_event true may = subst (Follows state) (sym (next_settles state event filled may)) (by_ripe (is_ripe (happened state event filled)) refl)
     by_event false may = quiet _ (next_happens state event filled may)
 
-pub second_of_two : (a b : Bool) → (a && b) ≡ true → b ≡ true
-second_of_two true b holds = holds
-second_of_two false b holds = absurd (cc)
-
 -- once a part is lost, nothing is decided but that
 pub only_loses : Losses → (state : State) (moves : List Move) → state.outcome ≡ None → is_some (first_lost state) ≡ true → are_legal state moves ≡ true
     → OnlyLoses state (after state moves)
 only_loses losses state [] none lost legal = Undecided none refl
 only_loses losses state (move ∷ moves) none lost legal =
     by_follow (λ now still some. only_loses losses now moves still some)
-    (follows losses state move.event move.filled (step_of state move.event move.place move.filled (first_of_two (is_legal state move.event move.place) _ legal)) none lost)
-    (second_of_two (is_legal state move.event move.place) _ legal)
+    (follows losses state move.event move.filled (step_of state move.event move.place move.filled (and_parts (is_legal state move.event move.place) _ legal).0) none lost)
+    (and_parts (is_legal state move.event move.place) _ legal).1
   where
     by_follow : ((now : State) → now.outcome ≡ None → is_some (first_lost now) ≡ true → are_legal now moves ≡ true → OnlyLoses now (after now moves))
         → Follows state (next state move.event move.filled) → are_legal (next state move.event move.filled) moves ≡ true

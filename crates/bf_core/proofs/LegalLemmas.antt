@@ -41,16 +41,13 @@ due_below : (state : State) (rank : ℕ) → IsState state → is_due state rank
 due_below state rank known due =
     rank_below goes_on state rank known refl (and_parts (goes_on (stage state rank)) (is_just (standing state rank).death (standing state rank).events) due).0
 
-first_of_two : (a b : Bool) → (a && b) ≡ true → a ≡ true
-first_of_two a b both = (and_parts a b both).0
-
 first_of_three : (a b c : Bool) → (a && b && c) ≡ true → a ≡ true
-first_of_three a b c all = first_of_two a b (first_of_two (a && b) c all)
+first_of_three a b c all = (and_parts a b (and_parts (a && b) c all).0).0
 
 -- the actor of a legal event is a rank
 legal_below : (state : State) (event : Event) (place : Place) → IsState state → is_legal state event place ≡ true → actor event < state.ranks
 legal_below state (Send rank to blocks sum) place known legal =
-    active_below state rank known (first_of_two (is_active state rank) (is_just (next_send place) to) legal)
+    active_below state rank known (and_parts (is_active state rank) (is_just (next_send place) to) legal).0
 legal_below state (Recv rank peer) place known legal =
     active_below state rank known (first_of_three (is_active state rank) (is_just (next_receive place) peer) (not (waits state rank place)) legal)
 legal_below state (Arrive rank Done) place known legal = active_below state rank known (and_parts _ _ legal).0
@@ -62,7 +59,7 @@ legal_below state (Die rank) place known legal = due_below state rank known lega
 pub actor_below : (state : State) (event : Event) → IsState state → IsLegalSomewhere state event → actor event < state.ranks
 actor_below state event known (place, (peers, legal)) = legal_below state event place known legal
 
-just_some : (o : Option ℕ) (n : ℕ) → is_just o n ≡ true → o ≡ Some n
+pub just_some : (o : Option ℕ) (n : ℕ) → is_just o n ≡ true → o ≡ Some n
 just_some (Some m) n same = ap Some (eqb-true m n same)
 just_some None n same = absurd (false≢true same)
 
@@ -90,7 +87,7 @@ received : (state : State) (rank peer : ℕ) (place : Place) → is_legal state 
 received state rank peer place legal =
     just_some (next_receive place) peer
     (and_parts (is_active state rank) (is_just (next_receive place) peer)
-    (first_of_two (is_active state rank && is_just (next_receive place) peer) (not (waits state rank place)) legal)).1
+    (and_parts (is_active state rank && is_just (next_receive place) peer) (not (waits state rank place)) legal).0).1
 
 pub receive_below : (state : State) (rank peer : ℕ) → IsLegalSomewhere state (Recv rank peer) → peer < state.ranks
 receive_below state rank peer (place, (peers, legal)) = receive_peer state.ranks place peer peers (received state rank peer place legal)

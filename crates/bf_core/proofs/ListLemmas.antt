@@ -1,7 +1,7 @@
 -- Filters, and lists in which some element passes a test.
 use Rattle.std.proofs.Common.{◌≡◌, ℕ, zero, suc, ◌+◌, ◌<◌, ◌≤◌, Bool, true, false, cond, ◌&&◌, ◌||◌, List, [], ◌∷◌, filter, length, arith, refl, ◌∙◌, ap, inl, inr}
 use Rattle.std.specs.Prelude.{◌==◌}
-use Rattle.std.proofs.lemmas.Bool.{cases_eq, eq-eqb}
+use Rattle.std.proofs.lemmas.Bool.{cases_eq, eq-eqb, or_right, and_parts}
 use Rattle.bf_buddy.specs.Members.{is_member}
 use Rattle.std.specs.List.{range_with_len, list_any, list_all}
 use Rattle.std.proofs.Math.ListN.{get_or}
@@ -53,17 +53,8 @@ none_at test (x ∷ xs) (suc i) d default none = none_at test xs i d default (re
 -- where all elements pass, each does at any place
 pub all_at : {X : Type 0} (test : X → Bool) (xs : List X) (i : ℕ) (d : X) → test d ≡ true → list_all test xs ≡ true → test (get_or xs i d) ≡ true
 all_at test [] i d default all = default
-all_at test (x ∷ xs) zero d default all = first_passes (test x) (list_all test xs) all
-  where
-    first_passes : (a b : Bool) → (a && b) ≡ true → a ≡ true
-    first_passes true b passes = refl
-    first_passes false b passes = passes
-all_at test (x ∷ xs) (suc i) d default all = all_at test xs i d default (rest_passes (test x) (list_all test xs) all)
-  where
-    rest_passes : (a b : Bool) → (a && b) ≡ true → b ≡ true
-    rest_passes true b passes = passes
-    rest_passes false b passes = absurd (cc)
-
+all_at test (x ∷ xs) zero d default all = (and_parts (test x) (list_all test xs) all).0
+all_at test (x ∷ xs) (suc i) d default all = all_at test xs i d default (and_parts (test x) (list_all test xs) all).1
 -- who passes a test is among those of a range that do
 pub in_filtered : (p : ℕ → Bool) (k n y : ℕ) → k ≤ y → y < k + n → p y ≡ true → is_member (filter p (range_with_len k n)) y ≡ true
 in_filtered p k zero y from below passes = absurd (omega arith)
@@ -76,13 +67,9 @@ in_filtered p k (suc n) y from below passes = elim (cases_eq k y) [
     here true c _ same = rw same refl
     here false c fails same = absurd (cc)
 
-    rest_in : (a b : Bool) → b ≡ true → (a || b) ≡ true
-    rest_in true b holds = refl
-    rest_in false b holds = holds
-
     later : (b c : Bool) → is_member (filter p (range_with_len (k + 1) n)) y ≡ true
         → is_member (cond b (k ∷ filter p (range_with_len (k + 1) n)) (filter p (range_with_len (k + 1) n))) y ≡ true
-    later true c rest = rest_in (k == y) _ rest
+    later true c rest = or_right (k == y) _ rest
     later false c rest = rest
 
 -- an element that fails a test, where not all pass

@@ -1,7 +1,7 @@
 -- In every order some rank that goes on can move.
 use Rattle.std.proofs.Common.{◌≡◌, ℕ, zero, suc, ◌+◌, ◌<◌, Bool, true, false, ◌&&◌, not, arith, refl, sym, ◌∙◌, ap, inl, inr}
 use Rattle.std.specs.Prelude.{◌⊎◌, ◌==◌, Option, Some, None, is_some}
-use Rattle.std.proofs.lemmas.Bool.{eqb-true, eq-eqb}
+use Rattle.std.proofs.lemmas.Bool.{eqb-true, eq-eqb, not-false, and_from}
 use Rattle.bf_core.specs.declared.event.Event.TheVariants.{Send, Recv, Arrive, Leave, Die}
 use Rattle.bf_core.specs.declared.event.How.TheVariants as hows
 use Rattle.bf_core.specs.declared.outcome.Outcome.{Outcome}
@@ -10,7 +10,7 @@ use Rattle.bf_core.specs.declared.place.Place.TheVariants.{Rounds, Past}
 use Rattle.bf_core.specs.declared.standing.Stage.{Stage}
 use Rattle.bf_core.specs.declared.standing.Stage.TheVariants.{Running, Arrived, Leaving, Ended, Dead, Gone}
 use Rattle.bf_core.specs.Stages.{is_running, is_leaving, is_awaited, goes_on}
-use Rattle.bf_core.specs.Places.{is_just, next_send, next_receive, is_past}
+use Rattle.bf_core.specs.Places.{is_just, round_of, next_send, next_receive, is_past}
 use Rattle.bf_core.specs.States.{State, stage, queue, is_due, is_active, has_dead_member, is_short_of_memory, is_finished}
 use Rattle.bf_core.specs.Legal.{waits, is_empty_from}
 use Rattle.bf_core.specs.Orders.{IsReached, IsBehind, AreInOrder, CanMove}
@@ -20,13 +20,9 @@ use Rattle.bf_core.proofs.SoundLemmas.{IsSound, is_open, reached_sound}
 can_die : (state : State) (places : ℕ → Place) (rank : ℕ) → is_due state rank ≡ true → CanMove state places
 can_die state places rank due = (rank, (Die rank, record { its = refl; legal = due; memory = λ wants. absurd (cc) }))
 
-both : (a b : Bool) → a ≡ true → b ≡ true → (a && b) ≡ true
-both true b is_a is_b = is_b
-both false b is_a is_b = absurd (cc)
-
 can_leave : (state : State) (places : ℕ → Place) (rank : ℕ) → is_leaving (stage state rank) ≡ true → is_due state rank ≡ false → CanMove state places
 can_leave state places rank leaving undue =
-    (rank, (Leave rank, record { its = refl; legal = both _ _ leaving (ap not undue); memory = λ wants. absurd (cc) }))
+    (rank, (Leave rank, record { its = refl; legal = and_from _ _ leaving (ap not undue); memory = λ wants. absurd (cc) }))
 
 can_send : (state : State) (places : ℕ → Place) (rank : ℕ) → is_active state rank ≡ true → is_some (next_send (places rank)) ≡ true → CanMove state places
 can_send state places rank active sends = by_next (next_send (places rank)) refl sends
@@ -38,7 +34,7 @@ can_send state places rank active sends = by_next (next_send (places rank)) refl
         Send rank to 0 0,
         record {
           its = refl;
-          legal = both _ _ active (ap (λ o. is_just o to) is_next ∙ eq-eqb to to refl);
+          legal = and_from _ _ active (ap (λ o. is_just o to) is_next ∙ eq-eqb to to refl);
           memory = λ wants. absurd (cc);
         },
       ),
@@ -47,7 +43,7 @@ can_send state places rank active sends = by_next (next_send (places rank)) refl
 
 can_arrive : (state : State) (places : ℕ → Place) (rank : ℕ) → is_active state rank ≡ true → is_past (places rank) ≡ true → CanMove state places
 can_arrive state places rank active past =
-    (rank, (Arrive rank hows.Done, record { its = refl; legal = both _ _ active past; memory = λ wants. absurd (cc) }))
+    (rank, (Arrive rank hows.Done, record { its = refl; legal = and_from _ _ active past; memory = λ wants. absurd (cc) }))
 
 -- a rank that has not arrived moves by itself where it is due, must leave, or does what an active rank does
 by_stage_of : (state : State) (places : ℕ → Place) (rank : ℕ) → is_awaited (stage state rank) ≡ true → (is_running (stage state rank) ≡ true → is_active state rank ≡ true → CanMove state places)
@@ -55,7 +51,7 @@ by_stage_of : (state : State) (places : ℕ → Place) (rank : ℕ) → is_await
 by_stage_of state places rank awaited active_moves = by_due (is_due state rank) refl
   where
     by_stage : is_due state rank ≡ false → (s : Stage) → stage state rank ≡ s → is_awaited s ≡ true → CanMove state places
-    by_stage undue Running runs _ = active_moves (ap is_running runs) (both _ _ (ap is_running runs) (ap not undue))
+    by_stage undue Running runs _ = active_moves (ap is_running runs) (and_from _ _ (ap is_running runs) (ap not undue))
     by_stage undue Leaving leaving _ = can_leave state places rank (ap is_leaving leaving) undue
     by_stage undue (Arrived how filled) _ none = absurd (cc)
     by_stage undue Ended _ none = absurd (cc)
@@ -65,10 +61,6 @@ by_stage_of state places rank awaited active_moves = by_due (is_due state rank) 
     by_due : (b : Bool) → is_due state rank ≡ b → CanMove state places
     by_due true due = can_die state places rank due
     by_due false undue = by_stage undue (stage state rank) refl awaited
-
-abbrev pub round_of : Place → ℕ
-round_of (Rounds round sent received peers) = round
-round_of Past = 0
 
 -- a rank behind one that receives is in an earlier round, or can send
 behind : (place other : Place) (peer : ℕ) → IsBehind place other → next_receive other ≡ Some peer → (round_of place < round_of other) ⊎ (is_some (next_send place) ≡ true)
@@ -95,7 +87,7 @@ module _ (state : State) (places : ℕ → Place) (order : AreInOrder state plac
             (
               Arrive rank hows.Broken,
               record
-                  { its = refl; legal = both _ _ (both _ _ active waiting) dies; memory = λ wants. absurd (cc) },
+                  { its = refl; legal = and_from _ _ (and_from _ _ active waiting) dies; memory = λ wants. absurd (cc) },
             ),
           )
           on_empty peer receives empty waiting false true alive wants_memory = (
@@ -103,7 +95,7 @@ module _ (state : State) (places : ℕ → Place) (order : AreInOrder state plac
             (
               Arrive rank hows.Memory,
               record
-                  { its = refl; legal = active; memory = λ _. both _ _ (both _ _ waiting (ap not alive)) wants_memory },
+                  { its = refl; legal = active; memory = λ _. and_from _ _ (and_from _ _ waiting (ap not alive)) wants_memory },
             ),
           )
           on_empty peer receives empty waiting false false alive fits =
@@ -122,7 +114,7 @@ module _ (state : State) (places : ℕ → Place) (order : AreInOrder state plac
               Recv rank peer,
               record {
                 its = refl;
-                legal = both _ _ (both _ _ active (ap (λ o. is_just o peer) receives ∙ eq-eqb peer peer refl)) (ap not (ap (is_empty_from state rank) receives ∙ waiting));
+                legal = and_from _ _ (and_from _ _ active (ap (λ o. is_just o peer) receives ∙ eq-eqb peer peer refl)) (ap not (ap (is_empty_from state rank) receives ∙ waiting));
                 memory = λ wants. absurd (cc);
               },
             ),
@@ -138,12 +130,8 @@ module _ (state : State) (places : ℕ → Place) (order : AreInOrder state plac
           by_next (inr (inr receives)) = by_peer (next_receive (places rank)) refl receives
 
   pub somebody_moves : IsSound state → is_finished state ≡ false → CanMove state places
-  somebody_moves sound unfinished = let one = someone goes_on state (yes _ unfinished) in by_stage one.0 (stage state one.0) refl one.1.1
+  somebody_moves sound unfinished = let one = someone goes_on state (not-false _ unfinished) in by_stage one.0 (stage state one.0) refl one.1.1
     where
-      yes : (b : Bool) → not b ≡ false → b ≡ true
-      yes true _ = refl
-      yes false finished = absurd (cc)
-
       awaited_by : (rank : ℕ) → is_awaited (stage state rank) ≡ true → CanMove state places
       awaited_by rank awaited = awaited_moves (round_of (places rank) + 1) rank awaited (omega arith)
 

@@ -66,7 +66,7 @@ dead_after Ended = refl
 dead_after Dead = refl
 dead_after Gone = refl
 
-short_after : (stage : Stage) → is_short (after_decision stage) ≡ false
+pub short_after : (stage : Stage) → is_short (after_decision stage) ≡ false
 short_after Running = refl
 short_after (Arrived how filled) = refl
 short_after Leaving = refl

@@ -3,7 +3,7 @@ use Rattle.std.proofs.Common.{◌≡◌, ◌≢◌, ℕ, ◌+◌, ◌<◌, ◌�
 use Rattle.std.specs.Prelude.{◌⊎◌, ◌==◌, Option, Some, None, is_some, if◌then◌else◌}
 use Rattle.std.specs.List.{list_any, range_with_len}
 use Rattle.std.proofs.lemmas.List.{length-set, length-map, get_or_past}
-use Rattle.std.proofs.lemmas.Bool.{cases_eq, cases_lt}
+use Rattle.std.proofs.lemmas.Bool.{cases_eq, cases_lt, and_parts}
 use Rattle.bf_core.specs.declared.event.Event.{Event}
 use Rattle.bf_core.specs.declared.event.Event.TheVariants.{Send, Recv, Arrive, Leave, Die}
 use Rattle.bf_core.specs.declared.event.How.{How}
@@ -297,10 +297,6 @@ left_sound state rank sound within leaving = by_outcome state.outcome refl
     by_outcome (Some outcome) ends = away outcome ends
     by_outcome None none = on none
 
-pub first_of_two : (a b : Bool) → (a && b) ≡ true → a ≡ true
-first_of_two true b holds = refl
-first_of_two false b holds = holds
-
 -- a rank that acts in its rounds does them
 pub running_stage : (state : State) (rank : ℕ) → is_running (stage state rank) ≡ true → stage state rank ≡ Running
 running_stage state rank runs = by_stage (stage state rank) runs
@@ -333,12 +329,12 @@ not_gone Dead dead = refl
 not_gone Gone gone = absurd (cc)
 
 pub acting : (state : State) (rank : ℕ) → is_active state rank ≡ true → stage state rank ≡ Running
-acting state rank active = running_stage state rank (first_of_two (is_running (stage state rank)) (not (is_due state rank)) active)
+acting state rank active = running_stage state rank (and_parts (is_running (stage state rank)) (not (is_due state rank)) active).0
 
 -- whoever may arrive does its rounds
 pub active_of : (state : State) (rank : ℕ) (how : How) (place : Place) → is_legal state (Arrive rank how) place ≡ true → is_active state rank ≡ true
-active_of state rank hows.Done place legal = first_of_two (is_active state rank) _ legal
-active_of state rank hows.Broken place legal = first_of_two (is_active state rank) _ (first_of_two (is_active state rank && waits state rank place) _ legal)
+active_of state rank hows.Done place legal = (and_parts (is_active state rank) _ legal).0
+active_of state rank hows.Broken place legal = (and_parts (is_active state rank) _ (and_parts (is_active state rank && waits state rank place) _ legal).0).0
 active_of state rank hows.Memory place legal = legal
 
 pub in_list : (state : State) (rank : ℕ) → stage state rank ≡ Running → rank < length state.standings
@@ -353,23 +349,23 @@ arrived_sound state rank how filled sound active =
 
 died_sound : (state : State) (rank : ℕ) → IsSound state → is_due state rank ≡ true → IsSound (settled (with_stage state rank Dead))
 died_sound state rank sound due =
-    let goes : goes_on (stage state rank) ≡ true = first_of_two (goes_on (stage state rank)) _ due in
+    let goes : goes_on (stage state rank) ≡ true = (and_parts (goes_on (stage state rank)) _ due).0 in
     settled_sound _ (brought_sound state rank Dead sound (is_rank goes_on state rank refl goes) (sym (not_gone (stage state rank) goes)) (λ _ _. refl))
 
 pub next_sound : (state : State) (event : Event) (place : Place) (filled : Bool) → IsSound state → is_legal state event place ≡ true → IsSound (next state event filled)
 next_sound state (Send rank to blocks sum) place filled sound legal =
-    let kept : IsSound (with_stage state rank (stage state rank)) = kept_sound state rank sound (in_list state rank (acting state rank (first_of_two (is_active state rank) _ legal))) in
+    let kept : IsSound (with_stage state rank (stage state rank)) = kept_sound state rank sound (in_list state rank (acting state rank (and_parts (is_active state rank) _ legal).0)) in
     record { size = kept.size; running = kept.running; over = kept.over; members = kept.members }
 next_sound state (Recv rank peer) place filled sound legal =
     let kept : IsSound (with_stage state rank (stage state rank)) =
-    kept_sound state rank sound (in_list state rank (acting state rank (first_of_two (is_active state rank) _ (first_of_two (is_active state rank && is_just (next_receive place) peer) _ legal)))) in
+    kept_sound state rank sound (in_list state rank (acting state rank (and_parts (is_active state rank) _ (and_parts (is_active state rank && is_just (next_receive place) peer) _ legal).0).0)) in
     record { size = kept.size; running = kept.running; over = kept.over; members = kept.members }
-next_sound state (Arrive rank hows.Done) place filled sound legal = arrived_sound state rank hows.Done filled sound (first_of_two (is_active state rank) _ legal)
+next_sound state (Arrive rank hows.Done) place filled sound legal = arrived_sound state rank hows.Done filled sound (and_parts (is_active state rank) _ legal).0
 next_sound state (Arrive rank hows.Broken) place filled sound legal =
-    arrived_sound state rank hows.Broken false sound (first_of_two (is_active state rank) _ (first_of_two (is_active state rank && waits state rank place) _ legal))
+    arrived_sound state rank hows.Broken false sound (and_parts (is_active state rank) _ (and_parts (is_active state rank && waits state rank place) _ legal).0).0
 next_sound state (Arrive rank hows.Memory) place filled sound legal = arrived_sound state rank hows.Memory false sound legal
 next_sound state (Leave rank) place filled sound legal =
-    let leaving : stage state rank ≡ Leaving = leaving_stage state rank (first_of_two (is_leaving (stage state rank)) _ legal) in
+    let leaving : stage state rank ≡ Leaving = leaving_stage state rank (and_parts (is_leaving (stage state rank)) _ legal).0 in
     left_sound state rank sound (is_rank is_leaving state rank refl (ap is_leaving leaving)) leaving
 next_sound state (Die rank) place filled sound legal = died_sound state rank sound legal
 
@@ -392,13 +388,8 @@ pub after_sound : (state : State) (moves : List Move) → IsSound state → are_
 after_sound state [] sound legal = sound
 after_sound state (move ∷ moves) sound legal =
     after_sound (next state move.event move.filled) moves
-    (next_sound state move.event move.place move.filled sound (first_of_two (is_legal state move.event move.place) _ legal))
-    (second_of_two (is_legal state move.event move.place) _ legal)
-  where
-    second_of_two : (a b : Bool) → (a && b) ≡ true → b ≡ true
-    second_of_two true b holds = holds
-    second_of_two false b holds = absurd (cc)
-
+    (next_sound state move.event move.place move.filled sound (and_parts (is_legal state move.event move.place) _ legal).0)
+    (and_parts (is_legal state move.event move.place) _ legal).1
 pub reached_sound : (state : State) → IsReached state → IsSound state
 reached_sound state reached = subst IsSound (sym reached.reached)
     (after_sound _ reached.moves (opening_sound reached.ranks reached.filled reached.deaths reached.shift reached.steps reached.interval reached.some_rank) reached.legal)

@@ -8,6 +8,11 @@ abbrev pub is_just : Option ℕ → ℕ → Bool
 is_just (Some m) n = m == n
 is_just None n = false
 
+-- the round of a place
+abbrev pub round_of : Place → ℕ
+round_of (Rounds round sent received peers) = round
+round_of Past = 0
+
 -- to whom a rank sends next
 abbrev pub next_send : Place → Option ℕ
 next_send (Rounds round sent received peers) = slice_get peers sent

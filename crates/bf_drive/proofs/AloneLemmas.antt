@@ -2,7 +2,7 @@
 use Rattle.std.proofs.Common.{◌≡◌, ℕ, zero, suc, ◌<◌, Bool, true, false, ◌&&◌, ◌||◌, not, List, [], ◌∷◌, ◌++◌, length, refl, sym, subst, ◌∙◌, ap, inl, inr, cond, arith}
 use Rattle.std.specs.Prelude.{◌==◌, ◌⊎◌, IsTrue, nat_lt, Option, Some, None, slice_get}
 use Rattle.std.specs.List.{range_with_len, list_any}
-use Rattle.std.proofs.lemmas.Bool.{and_parts, eqb-true, eq-eqb, lt-ltb}
+use Rattle.std.proofs.lemmas.Bool.{and_parts, eqb-true, eq-eqb, lt-ltb, not-true, both_ways, or_parts}
 use Rattle.bf_program.specs.declared.epoch.Epoch.{Epoch}
 use Rattle.bf_program.specs.Meanings.{Meanings}
 use Rattle.bf_core.specs.declared.event.Event.{Event}
@@ -13,13 +13,13 @@ use Rattle.bf_core.specs.declared.place.Place.TheVariants.{Rounds, Past}
 use Rattle.bf_core.specs.declared.standing.Stage.{Stage}
 use Rattle.bf_core.specs.declared.standing.Stage.TheVariants as stages
 use Rattle.bf_core.specs.Stages.{is_running, is_leaving, goes_on}
-use Rattle.bf_core.specs.Places.{is_just, next_send, next_receive, is_past}
+use Rattle.bf_core.specs.Places.{is_just, next_send, next_receive, is_past, round_of}
 use Rattle.bf_core.specs.States.{State, stage, is_due, is_active, is_finished}
 use Rattle.bf_core.specs.Legal.{actor, is_memory, is_legal, waits, is_empty_from, IsOffered}
 use Rattle.bf_core.proofs.StageLemmas.{nobody_any}
 use Rattle.bf_core.proofs.LawLemmas.{nothing_legal}
 use Rattle.bf_world.specs.Course.{message_at}
-use Rattle.bf_world.specs.Runs.{Run, place, round_of, is_measured, tells_truly, is_legal_in, run_after, is_journal}
+use Rattle.bf_world.specs.Runs.{Run, place, is_measured, tells_truly, is_legal_in, run_after, is_journal}
 use Rattle.bf_rank.specs.Ranks.{IsTurn}
 use Rattle.bf_drive.specs.Drives.{Turned, Turns, Passes, IsDriven, NobodyWantsMemory}
 use Rattle.bf_drive.proofs.StayLemmas.{first_legal, last_legal}
@@ -232,27 +232,15 @@ module _ {S L M T R : Type 0} (m : Meanings S L M T R) (setup : S) where
 
 -- ---- turns
 
-either_false : (a b : Bool) → (a || b) ≡ false → (a ≡ false) × (b ≡ false)
-either_false true b none = absurd (cc)
-either_false false b none = (refl, none)
-
 nobody_before : (old : List Event) (event : Event) → NobodyWantsMemory (old ++ event ∷ []) → NobodyWantsMemory old
 nobody_before [] event none = refl
 nobody_before (e ∷ old) event none =
-    let parts = either_false (is_memory e) _ none in
+    let parts = or_parts (is_memory e) _ none in
     ap (λ b. b || list_any is_memory old) parts.0 ∙ nobody_before old event parts.1
 
 nobody_last : (old : List Event) (event : Event) → NobodyWantsMemory (old ++ event ∷ []) → is_memory event ≡ false
-nobody_last [] event none = (either_false (is_memory event) _ none).0
-nobody_last (e ∷ old) event none = nobody_last old event (either_false (is_memory e) _ none).1
-
-true_false : (b : Bool) → b ≡ true → b ≡ false → ⊥
-true_false true holds fails = absurd (cc)
-true_false false holds fails = absurd (cc)
-
-true_not : (b : Bool) → not b ≡ true → b ≡ false
-true_not true holds = absurd (cc)
-true_not false holds = refl
+nobody_last [] event none = (or_parts (is_memory event) _ none).0
+nobody_last (e ∷ old) event none = nobody_last old event (or_parts (is_memory e) _ none).1
 
 module _ {S L M T R : Type 0} (m : Meanings S L M T R) (good : S → Epoch → ℕ → List L → Type 0) (setup : S) where
   -- a legal journal in which nobody wants memory
@@ -291,7 +279,7 @@ module _ {S L M T R : Type 0} (m : Meanings S L M T R) (good : S → Epoch → �
     where
       by_turn : IsOffered (run_after m setup old).core rank (place (run_after m setup old) rank) event ⊎ IsTrue (is_memory event) → ⊥
       by_turn (inl offered) = none event offered
-      by_turn (inr wants) = true_false (is_memory event) wants (quiet_last old new event more quiet)
+      by_turn (inr wants) = both_ways (is_memory event) (quiet_last old new event more quiet) wants
 
   -- a turn leads to one journal
   turned_once : (rank : ℕ) (old new other : List Event) → IsQuiet new → IsQuiet other → Turned m good setup rank old new → Turned m good setup rank old other → new ≡ other
@@ -315,9 +303,9 @@ module _ {S L M T R : Type 0} (m : Meanings S L M T R) (good : S → Epoch → �
   ended_still rank old new over quiet (inr (same, none)) = same
   ended_still rank old new over quiet (inl (event, (more, turn))) =
       let core = (run_after m setup old).core in
-      let rests = nobody_any goes_on core refl (true_not _ over) (actor event) in
+      let rests = nobody_any goes_on core refl (not-true _ over) (actor event) in
       let legal = (and_parts (is_legal core event (place (run_after m setup old) (actor event))) _ (legal_last old new event more quiet)).0 in
-      absurd (true_false (is_legal core event (place (run_after m setup old) (actor event))) legal (nothing_legal core event (place (run_after m setup old) (actor event)) rests))
+      absurd (both_ways (is_legal core event (place (run_after m setup old) (actor event))) (nothing_legal core event (place (run_after m setup old) (actor event)) rests) legal)
 
   turns_still : (ranks : List ℕ) (old new : List Event) → is_finished (run_after m setup old).core ≡ true → IsQuiet new → Turns m good setup ranks old new → new ≡ old
   turns_still [] old new over quiet same = same

@@ -2,7 +2,7 @@
 use Rattle.std.proofs.Common.{◌≡◌, ◌≢◌, ℕ, ◌<◌, Bool, true, false, ◌&&◌, List, [], ◌∷◌, ◌++◌, length, arith, refl, sym, subst, ◌∙◌, inl, inr}
 use Rattle.std.specs.Prelude.{◌⊎◌, slice_set}
 use Rattle.std.proofs.Math.ListN.{get_or}
-use Rattle.std.proofs.lemmas.Bool.{cases_eq}
+use Rattle.std.proofs.lemmas.Bool.{cases_eq, and_from, and_parts}
 use Rattle.std.proofs.lemmas.List.{get_or-set_same, get_or-set_other, length-set}
 use Rattle.bf_drive.specs.Drives.{Turned, AreAt}
 use Rattle.bf_program.specs.declared.epoch.Epoch.{Epoch}
@@ -16,30 +16,17 @@ use Rattle.bf_world.proofs.RunLemmas.{run_more}
 use Rattle.bf_rank.specs.Ranks.{RankView, sight, Agrees, IsAt}
 use Rattle.bf_rank.proofs.AgreeLemmas.{agrees_other}
 
-first_of_two : (a b : Bool) → (a && b) ≡ true → a ≡ true
-first_of_two true b holds = refl
-first_of_two false b holds = holds
-
-second_of_two : (a b : Bool) → (a && b) ≡ true → b ≡ true
-second_of_two true b holds = holds
-second_of_two false b holds = absurd (cc)
-
 module _ {S L M T R : Type 0} (m : Meanings S L M T R) (setup : S) where
   last_legal_from : (run : Run L T) (journal : List Event) (event : Event) → is_legal_from m setup run (journal ++ event ∷ []) ≡ true
       → is_legal_in m setup (run_from m setup run journal) event ≡ true
-  last_legal_from run [] event legal = first_of_two (is_legal_in m setup run event) _ legal
+  last_legal_from run [] event legal = (and_parts (is_legal_in m setup run event) _ legal).0
   last_legal_from run (first ∷ rest) event legal =
-      last_legal_from (next_run m setup run first) rest event (second_of_two (is_legal_in m setup run first) _ legal)
+      last_legal_from (next_run m setup run first) rest event (and_parts (is_legal_in m setup run first) _ legal).1
 
   first_legal_from : (run : Run L T) (journal : List Event) (event : Event) → is_legal_from m setup run (journal ++ event ∷ []) ≡ true → is_legal_from m setup run journal ≡ true
   first_legal_from run [] event legal = refl
-  first_legal_from run (first ∷ rest) event legal = both (is_legal_in m setup run first) _ (first_of_two (is_legal_in m setup run first) _ legal)
-      (first_legal_from (next_run m setup run first) rest event (second_of_two (is_legal_in m setup run first) _ legal))
-    where
-      both : (a b : Bool) → a ≡ true → b ≡ true → (a && b) ≡ true
-      both true b is_a is_b = is_b
-      both false b is_a is_b = absurd (cc)
-
+  first_legal_from run (first ∷ rest) event legal = and_from (is_legal_in m setup run first) _ (and_parts (is_legal_in m setup run first) _ legal).0
+      (first_legal_from (next_run m setup run first) rest event (and_parts (is_legal_in m setup run first) _ legal).1)
   -- the last event of a journal is legal after those before
   pub last_legal : (journal : List Event) (event : Event) → is_journal m setup (journal ++ event ∷ []) ≡ true → is_legal_in m setup (run_after m setup journal) event ≡ true
   unfolding is_journal run_after
@@ -58,7 +45,7 @@ module _ {S L M T R : Type 0} (m : Meanings S L M T R) (good : S → Epoch → �
   stays_at journal event view legal differs at =
       let lawful : IsLawful m good setup goods stores (run_after m setup journal) = after_lawful m good setup goods stores limits journal (first_legal m setup journal event legal) in
       let its : is_legal (run_after m setup journal).core event (place (run_after m setup journal) (actor event)) ≡ true =
-      first_of_two (is_legal (run_after m setup journal).core event (place (run_after m setup journal) (actor event))) _ (last_legal m setup journal event legal) in
+      (and_parts (is_legal (run_after m setup journal).core event (place (run_after m setup journal) (actor event))) _ (last_legal m setup journal event legal)).0 in
       record {
         within = at.within;
         agrees =

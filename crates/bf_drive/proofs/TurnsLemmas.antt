@@ -2,9 +2,10 @@
 use Rattle.std.proofs.Common.{◌≡◌, ℕ, zero, suc, ◌+◌, ◌<◌, ◌≤◌, Bool, true, false, ◌||◌, List, [], ◌∷◌, length, arith, refl, sym, subst, ap, inl, inr}
 use Rattle.std.specs.Prelude.{◌==◌}
 use Rattle.std.specs.List.{range_with_len}
-use Rattle.std.proofs.lemmas.Bool.{eqb-true, eq-eqb, cases_lt, cases_eq}
+use Rattle.std.proofs.lemmas.Bool.{eqb-true, eq-eqb, cases_lt, cases_eq, or_right}
 use Rattle.std.proofs.Common.{length-append, add-zero, take}
 use Rattle.std.proofs.Math.ListN.{get_or}
+use Rattle.bf_buddy.proofs.MemberLemmas.{member_range}
 use Rattle.bf_buddy.specs.Members.{is_member}
 use Rattle.bf_program.specs.declared.epoch.Epoch.{Epoch}
 use Rattle.bf_program.specs.Meanings.{Meanings}
@@ -12,18 +13,6 @@ use Rattle.bf_core.specs.declared.event.Event.{Event}
 use Rattle.bf_core.specs.Legal.{IsOffered}
 use Rattle.bf_world.specs.Runs.{place, run_after}
 use Rattle.bf_drive.specs.Drives.{Turned, Turns, Passes}
-
--- the ranks below a number are members of their range
-in_range : (k n r : ℕ) → k ≤ r → r < k + n → is_member (range_with_len k n) r ≡ true
-in_range k zero r low high = absurd (omega arith)
-in_range k (suc n) r low high = elim (cases_eq k r) [
-  | inl same ↦ ap (λ b. b || is_member (range_with_len (k + 1) n) r) (eq-eqb k r same)
-  | inr differs ↦ in_rest (k == r) (is_member (range_with_len (k + 1) n) r) (in_range (k + 1) n r (omega (arith, low, differs)) (omega arith))
-]
-  where
-    in_rest : (a b : Bool) → b ≡ true → (a || b) ≡ true
-    in_rest true b holds = refl
-    in_rest false b holds = holds
 
 module _ {S L M T R : Type 0} (m : Meanings S L M T R) (good : S → Epoch → ℕ → List L → Type 0) (setup : S) where
   turned_grows : (rank : ℕ) (old new : List Event) → Turned m good setup rank old new → length old ≤ length new
@@ -68,7 +57,7 @@ module _ {S L M T R : Type 0} (m : Meanings S L M T R) (good : S → Epoch → �
   pass_grows count rank old new turns within event offered = elim (cases_lt (length old) (length new)) [
     | inl more ↦ more
     | inr still ↦ absurd (still_turns (range_with_len 0 count) old new turns (omega (arith, still, turns_grow (range_with_len 0 count) old new turns)) rank
-        (in_range 0 count rank (omega arith) (omega arith)) event offered)
+        (member_range 0 count rank (omega arith) (omega arith)) event offered)
   ]
 
   -- one more turn of an order

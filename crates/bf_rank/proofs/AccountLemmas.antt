@@ -1,8 +1,9 @@
 -- What a rank's own events make of its account.
 use Rattle.std.proofs.Common.{◌≡◌, ℕ, zero, suc, ◌+◌, ◌-◌, ◌<◌, ◌≤◌, Bool, true, false, ◌||◌, not, List, [], ◌∷◌, ◌++◌, length, drop, arith, refl, sym, subst, ◌∙◌, ap, inl, inr}
 use Rattle.std.specs.Prelude.{◌==◌, ◌⊎◌, Option, Some, None, Result, Ok, Err, IfOk, IsOk, OnOk, OnErr, is_some, slice_get, if◌then◌else◌, slice_set}
-use Rattle.std.proofs.lemmas.Bool.{eq-eqb, eqb-true, lt-ltb}
+use Rattle.std.proofs.lemmas.Bool.{eq-eqb, eqb-true, lt-ltb, ne_eqb, and_parts, and_from}
 use Rattle.std.proofs.lemmas.List.{get_or-set_same, nil_from_length}
+use Rattle.std.proofs.lemmas.Option.{same_Some}
 use Rattle.bf_program.specs.declared.epoch.Epoch.{Epoch}
 use Rattle.bf_program.specs.Meanings.{Meanings, Regions}
 use Rattle.bf_program.specs.Laws.{Laws}
@@ -17,14 +18,14 @@ use Rattle.bf_core.specs.declared.place.Place.TheVariants.{Rounds, Past}
 use Rattle.bf_core.specs.declared.standing.Stage.{Stage}
 use Rattle.bf_core.specs.declared.standing.Stage.TheVariants.{Running, Arrived, Leaving, Ended, Dead, Gone}
 use Rattle.bf_core.specs.Stages.{is_running, is_leaving, is_arrived, goes_on}
-use Rattle.bf_core.specs.Places.{next_send, next_receive, is_past}
+use Rattle.bf_core.specs.Places.{next_send, next_receive, is_past, round_of}
 use Rattle.bf_core.specs.States.{stage, queue, is_due, is_active, has_dead_member, is_short_of_memory}
 use Rattle.bf_core.specs.Legal.{waits, is_empty_from, IsOffered}
 use Rattle.bf_core.specs.Next.{with_stage, happened}
-use Rattle.bf_core.proofs.SoundLemmas.{moved_stage, in_list, first_of_two, leaving_stage}
+use Rattle.bf_core.proofs.SoundLemmas.{moved_stage, in_list, leaving_stage}
 use Rattle.bf_core.proofs.StageLemmas.{is_rank}
 use Rattle.bf_world.specs.Course.{local_at, peers_at, message_at, place_with, place_from, first_place, after_send, after_receive}
-use Rattle.bf_world.specs.Runs.{Run, place, round_of, will_be_filled, run_happened, run_after, is_journal}
+use Rattle.bf_world.specs.Runs.{Run, place, will_be_filled, run_happened, run_after, is_journal}
 use Rattle.bf_world.specs.Worlds.{SendsNext, ReceivesNext, IsParcel, ArrivesAs, core_after, message_after, place_after}
 use Rattle.bf_world.specs.declared.answers.Arrival.TheVariants as arrivals
 use Rattle.bf_world.specs.Queues.{Waiting, messages}
@@ -34,7 +35,7 @@ use Rattle.bf_world.proofs.LawfulLemmas.{IsLawful, after_lawful}
 use Rattle.bf_world.proofs.PlaceLemmas.{IsPlaced, receives_at}
 use Rattle.bf_world.proofs.MessageLemmas.{has_next}
 use Rattle.bf_world.proofs.RunLemmas.{run_more}
-use Rattle.bf_world.proofs.WorldLemmas.{and_both, just_same}
+use Rattle.bf_world.proofs.WorldLemmas.{just_same}
 use Rattle.bf_rank.specs.declared.stand.Stand.{Stand}
 use Rattle.bf_rank.specs.declared.stand.Stand.TheVariants as stands
 use Rattle.bf_rank.specs.declared.stand.Turn.{Turn}
@@ -46,16 +47,6 @@ use Rattle.bf_rank.specs.Steps.{holding, viewed, local_kept, kept, turn_to, MayS
 use Rattle.bf_rank.proofs.AgreeLemmas.{agrees_settled}
 use Rattle.bf_rank.proofs.ArriveLemmas.{done_filled, done_parcel, arrives_done, arrives_with_parcel, waiting_offers_nothing, arrived_offers_nothing}
 use Rattle.bf_rank.proofs.TurnLemmas.{MaySend, may_send}
-
-the_local : {L : Type 0} {a b : L} → Some a ≡ Some b → a ≡ b
-the_local {a = a} same = ap (λ o. elim o [ Some v ↦ v | None ↦ a ]) same
-
-not_same : (a b : ℕ) → (a ≡ b → ⊥) → (a == b) ≡ false
-not_same a b differs = by_test (a == b) refl
-  where
-    by_test : (c : Bool) → (a == b) ≡ c → c ≡ false
-    by_test true same = absurd (differs (eqb-true a b same))
-    by_test false _ = refl
 
 not_zero : (n : ℕ) → 0 < n → (n == 0) ≡ false
 not_zero n some = by_test (n == 0) refl
@@ -143,10 +134,10 @@ module _ {S L M T R B U : Type 0} (m : Meanings S L M T R) (regions : Regions S 
       record {
         ranked = may.at.within;
         runs = agrees.0;
-        active = and_both _ _ (ap is_running agrees.0) (ap not may.undue);
+        active = and_from _ _ (ap is_running agrees.0) (ap not may.undue);
         same = agrees.1.0;
         at_is = agrees.1.1.0;
-        here = subst P (sym (the_local agrees.1.1.1.1.0)) agrees.1.1.1.1.1;
+        here = subst P (sym (same_Some _ _ agrees.1.1.1.1.0)) agrees.1.1.1.1.1;
         placed = subst Q agrees.1.1.0 (lawful.steady.placed rank);
       }
 
@@ -229,7 +220,7 @@ module _ {S L M T R B U : Type 0} (m : Meanings S L M T R) (regions : Regions S 
         has_moved new (Send rank to blocks sum) (holding rank after epoch (stands.Placed (Rounds round (sent + 1) received peers))) stands_at.ranked more
         (record {
           its = refl;
-          legal = and_both _ _ stands_at.active (just_same _ to (ap next_send stands_at.at_is ∙ next));
+          legal = and_from _ _ stands_at.active (just_same _ to (ap next_send stands_at.at_is ∙ next));
           memory = λ is. absurd (cc);
         }) (λ is. absurd (cc)) (
           still_runs rank stands_at.runs,
@@ -316,7 +307,7 @@ module _ {S L M T R B U : Type 0} (m : Meanings S L M T R) (regions : Regions S 
         has_moved new (Recv rank peer) (holding rank after epoch stand) stands_at.ranked more
         (record {
           its = refl;
-          legal = and_both _ _ (and_both _ _ stands_at.active (just_same _ peer (ap next_receive stands_at.at_is ∙ next))) (ap not (waits_as ∙ some));
+          legal = and_from _ _ (and_from _ _ stands_at.active (just_same _ peer (ap next_receive stands_at.at_is ∙ next))) (ap not (waits_as ∙ some));
           memory = λ is. absurd (cc);
         })
         (λ is. comes_past (sight run rank) rank (after_receive m setup run.core.epoch run.start rank at) after stand comes is)
@@ -331,7 +322,7 @@ module _ {S L M T R B U : Type 0} (m : Meanings S L M T R) (regions : Regions S 
         has_moved new (Arrive rank Broken) (holding rank local epoch stands.Arrived) stands_at.ranked more
         (record {
           its = refl;
-          legal = and_both _ _ (and_both _ _ stands_at.active (waits_as ∙ eq-eqb (queue run.core peer rank) 0 (empty none))) dead;
+          legal = and_from _ _ (and_from _ _ stands_at.active (waits_as ∙ eq-eqb (queue run.core peer rank) 0 (empty none))) dead;
           memory = λ is. absurd (cc);
         })
         (λ is. absurd (cc))
@@ -370,14 +361,14 @@ module _ {S L M T R B U : Type 0} (m : Meanings S L M T R) (regions : Regions S 
         subst P (sym has.1.1) (arrives_with_parcel m good setup seen_done rank local here_done (eq-eqb run.core.epoch.target run.core.steps (last_when has.0)))
     arrived_done None has =
         let P : L → Type 0 = HasFinished m good setup seen_done rank in
-        subst P (sym has.1) (arrives_done m good setup seen_done rank local here_done (not_same run.core.epoch.target run.core.steps (λ ends. has.0 (when_last ends))))
+        subst P (sym has.1) (arrives_done m good setup seen_done rank local here_done (ne_eqb run.core.epoch.target run.core.steps (λ ends. has.0 (when_last ends))))
 
     pub has_done : (new : List Event) → new ≡ journal ++ Arrive rank Done ∷ [] → HasMoved m good setup journal new (holding rank after epoch stands.Arrived)
     has_done new more =
         has_moved new (Arrive rank Done) (holding rank after epoch stands.Arrived) stands_at.ranked more
         (record {
           its = refl;
-          legal = and_both _ _ stands_at.active (ap is_past stands_at.at_is);
+          legal = and_from _ _ stands_at.active (ap is_past stands_at.at_is);
           memory = λ is. absurd (cc);
         })
         (λ is. absurd (cc))
@@ -410,7 +401,7 @@ module _ {S L M T R B U : Type 0} (m : Meanings S L M T R) (regions : Regions S 
       (λ opens. absurd (let e : stands.Ended ≡ stands.Opening = sym stand_is ∙ opens in cc))
       (let Q : Stand → Type 0 = Agrees m good setup (sight (run_happened m setup run (Die view.rank)) view.rank) (kept view) in
       subst Q (sym stand_is)
-      (ap goes_on (moved_stage run.core view.rank Dead (is_rank goes_on run.core view.rank refl (first_of_two (goes_on (stage run.core view.rank)) _ due))).its)))
+      (ap goes_on (moved_stage run.core view.rank Dead (is_rank goes_on run.core view.rank refl (and_parts (goes_on (stage run.core view.rank)) _ due).0)).its)))
 
   -- the first place of an epoch
   pub opens : (rank : ℕ) (epoch : Epoch) (local : L) → MayStep m good setup journal (holding rank local epoch stands.Opening)
@@ -475,7 +466,7 @@ module _ {S L M T R B U : Type 0} (m : Meanings S L M T R) (regions : Regions S 
     waits_for_decision still = arrived_offers_nothing run.core view.rank (place run view.rank) may.undue still
 
     leaving_turn : is_leaving (stage run.core view.rank) ≡ true → IsOffered run.core view.rank (place run view.rank) (Leave view.rank)
-    leaving_turn leaving = record { its = refl; legal = and_both _ _ leaving (ap not may.undue); memory = λ is. absurd (cc) }
+    leaving_turn leaving = record { its = refl; legal = and_from _ _ leaving (ap not may.undue); memory = λ is. absurd (cc) }
 
     stage_left : is_leaving (stage run.core view.rank) ≡ true
         → stage (happened run.core (Leave view.rank) (will_be_filled m setup run view.rank)) view.rank ≡ (if is_some run.core.outcome then Ended else Running)
@@ -507,7 +498,7 @@ module _ {S L M T R B U : Type 0} (m : Meanings S L M T R) (regions : Regions S 
       same = same;
       is_good = lawful.steady.good_start;
       will = let P : L → Type 0 = WillBegin m good setup run.core.epoch.restored (sight run view.rank) view.rank in
-          subst P (the_local (sym (begins leaving none).1.1.0 ∙ its)) (begins leaving none).1.1.1;
+          subst P (same_Some _ _ (sym (begins leaving none).1.1.0 ∙ its)) (begins leaving none).1.1.1;
     }
 
     pub has_some : is_leaving (stage (core_after m setup journal) view.rank) ≡ true → (core_after m setup journal).outcome ≡ None → view.local ≡ None → ⊥
@@ -560,7 +551,7 @@ module _ {S L M T R B U : Type 0} (m : Meanings S L M T R) (regions : Regions S 
       → is_short_of_memory (core_after m setup journal) ≡ true) → IsOfferedSome m good setup journal rank
   offered_some waiting queues rank epoch at local stands_at short =
       elim (has_next m setup run.core.epoch run.start rank at stands_at.placed) [
-        | inl past ↦ (Arrive rank Done, record { its = refl; legal = and_both _ _ stands_at.active (ap is_past stands_at.at_is ∙ past); memory = λ is. absurd (cc) })
+        | inl past ↦ (Arrive rank Done, record { its = refl; legal = and_from _ _ stands_at.active (ap is_past stands_at.at_is ∙ past); memory = λ is. absurd (cc) })
         | inr other ↦ elim other [
           | inl sends ↦ by_send (next_send at) refl sends
           | inr receives ↦ by_receive (next_receive at) refl receives
@@ -569,7 +560,7 @@ module _ {S L M T R B U : Type 0} (m : Meanings S L M T R) (regions : Regions S 
     where
       by_send : (o : Option ℕ) → next_send at ≡ o → is_some o ≡ true → IsOfferedSome m good setup journal rank
       by_send (Some to) next _ =
-          (Send rank to 0 0, record { its = refl; legal = and_both _ _ stands_at.active (just_same _ to (ap next_send stands_at.at_is ∙ next)); memory = λ is. absurd (cc) })
+          (Send rank to 0 0, record { its = refl; legal = and_from _ _ stands_at.active (just_same _ to (ap next_send stands_at.at_is ∙ next)); memory = λ is. absurd (cc) })
       by_send None next some = absurd (cc)
 
       here : (peer : ℕ) → next_receive at ≡ Some peer → waits run.core rank (place run rank) ≡ (queue run.core peer rank == 0)
@@ -578,13 +569,13 @@ module _ {S L M T R B U : Type 0} (m : Meanings S L M T R) (regions : Regions S 
       by_dead : (peer : ℕ) → next_receive at ≡ Some peer → (queue run.core peer rank == 0) ≡ true → messages waiting peer rank ≡ [] → (b : Bool) → has_dead_member run.core ≡ b
           → IsOfferedSome m good setup journal rank
       by_dead peer next empty none true dead =
-          (Arrive rank Broken, record { its = refl; legal = and_both _ _ (and_both _ _ stands_at.active (here peer next ∙ empty)) dead; memory = λ is. absurd (cc) })
+          (Arrive rank Broken, record { its = refl; legal = and_from _ _ (and_from _ _ stands_at.active (here peer next ∙ empty)) dead; memory = λ is. absurd (cc) })
       by_dead peer next empty none false alive = (
         Arrive rank Memory,
         record {
           its = refl;
           legal = stands_at.active;
-          memory = λ _. and_both _ _ (and_both _ _ (here peer next ∙ empty) (ap not alive)) (short peer next none alive);
+          memory = λ _. and_from _ _ (and_from _ _ (here peer next ∙ empty) (ap not alive)) (short peer next none alive);
         },
       )
 
@@ -597,7 +588,7 @@ module _ {S L M T R B U : Type 0} (m : Meanings S L M T R) (regions : Regions S 
         Recv rank peer,
         record {
           its = refl;
-          legal = and_both _ _ (and_both _ _ stands_at.active (just_same _ peer (ap next_receive stands_at.at_is ∙ next))) (ap not (here peer next ∙ some));
+          legal = and_from _ _ (and_from _ _ stands_at.active (just_same _ peer (ap next_receive stands_at.at_is ∙ next))) (ap not (here peer next ∙ some));
           memory = λ is. absurd (cc);
         },
       )
@@ -613,12 +604,12 @@ module _ {S L M T R B U : Type 0} (m : Meanings S L M T R) (regions : Regions S 
       → IsOfferedSome m good setup journal rank
   receives_some waiting queues rank peer epoch at local stands_at next short =
       let P : ℕ → Type 0 = λ p. messages waiting p rank ≡ [] → has_dead_member (core_after m setup journal) ≡ false → is_short_of_memory (core_after m setup journal) ≡ true in
-      offered_some waiting queues rank epoch at local stands_at (λ other receives. subst P (the_local (sym next ∙ receives)) short)
+      offered_some waiting queues rank epoch at local stands_at (λ other receives. subst P (same_Some _ _ (sym next ∙ receives)) short)
 
   some_given : (rank : ℕ) (at : Place) → is_active run.core rank ≡ true → place run rank ≡ at
       → (is_past at ≡ true) ⊎ ((is_some (next_send at) ≡ true) ⊎ (is_some (next_receive at) ≡ true)) → next_receive at ≡ None → IsOfferedSome m good setup journal rank
   some_given rank at active at_is next none = elim next [
-    | inl past ↦ (Arrive rank Done, record { its = refl; legal = and_both _ _ active (ap is_past at_is ∙ past); memory = λ is. absurd (cc) })
+    | inl past ↦ (Arrive rank Done, record { its = refl; legal = and_from _ _ active (ap is_past at_is ∙ past); memory = λ is. absurd (cc) })
     | inr other ↦ elim other [
       | inl sends ↦ by_send (next_send at) refl sends
       | inr receives ↦ absurd (let e : true ≡ false = sym receives ∙ ap is_some none in cc)
@@ -627,7 +618,7 @@ module _ {S L M T R B U : Type 0} (m : Meanings S L M T R) (regions : Regions S 
     where
       by_send : (o : Option ℕ) → next_send at ≡ o → is_some o ≡ true → IsOfferedSome m good setup journal rank
       by_send (Some to) sends _ =
-          (Send rank to 0 0, record { its = refl; legal = and_both _ _ active (just_same _ to (ap next_send at_is ∙ sends)); memory = λ is. absurd (cc) })
+          (Send rank to 0 0, record { its = refl; legal = and_from _ _ active (just_same _ to (ap next_send at_is ∙ sends)); memory = λ is. absurd (cc) })
       by_send None sends some = absurd (cc)
 
   -- a rank that does not receive next is offered an event
@@ -638,7 +629,7 @@ module _ {S L M T R B U : Type 0} (m : Meanings S L M T R) (regions : Regions S 
   pub opens_some : (rank : ℕ) (epoch : Epoch) (local : L) → MayStep m good setup journal (holding rank local epoch stands.Opening) → IsOfferedSome m good setup journal rank
   opens_some rank epoch local may =
       let agrees : Agrees m good setup (sight run rank) (holding rank local epoch stands.Opening) stands.Opening = may.at.agrees in
-      some_given rank (place run rank) (and_both _ _ (ap is_running agrees.0) (ap not may.undue)) refl
+      some_given rank (place run rank) (and_from _ _ (ap is_running agrees.0) (ap not may.undue)) refl
       (has_next m setup run.core.epoch run.start rank (place run rank) (lawful.steady.placed rank))
       (ap next_receive agrees.1.1.0 ∙ receives_later (sight run rank) rank (m.rounds setup run.core.epoch) 0)
 

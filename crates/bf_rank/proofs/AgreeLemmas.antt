@@ -2,6 +2,8 @@
 use Rattle.std.proofs.Common.{◌≡◌, ◌≢◌, ℕ, ◌<◌, Bool, true, false, cond, ◌||◌, not, List, [], ◌∷◌, map, filter, refl, sym, subst, ◌∙◌, ap}
 use Rattle.std.specs.Prelude.{◌==◌, Option, Some, None, is_some, if◌then◌else◌}
 use Rattle.std.proofs.lemmas.List.{get_or-set_other}
+use Rattle.std.proofs.lemmas.Bool.{not-true, and_parts}
+use Rattle.std.proofs.lemmas.Option.{same_Some}
 use Rattle.bf_buddy.specs.Members.{is_member}
 use Rattle.bf_program.specs.declared.epoch.Epoch.{Epoch}
 use Rattle.bf_program.specs.Meanings.{Meanings}
@@ -23,7 +25,7 @@ use Rattle.bf_core.specs.Stages.{is_awaited, is_short, is_gone, goes_on, lives, 
 use Rattle.bf_core.specs.States.{State, stage, live_members, is_short_of_memory, first_lost}
 use Rattle.bf_core.specs.Legal.{actor, is_legal}
 use Rattle.bf_core.specs.Next.{may_decide, happened, is_ripe, is_everyone_done, decision, decision_where, decided, dissolved, ended, committed, restored}
-use Rattle.bf_core.proofs.LawLemmas.{IsStep, step_of, IsSameEpoch, same_epoch, running_where_ripe, second_of_two}
+use Rattle.bf_core.proofs.LawLemmas.{IsStep, step_of, IsSameEpoch, same_epoch, running_where_ripe}
 use Rattle.bf_core.specs.declared.event.How.{How}
 use Rattle.bf_core.proofs.StageLemmas.{nobody, nobody_any, stage_dissolved}
 use Rattle.bf_core.proofs.ListLemmas.{all_at}
@@ -116,12 +118,9 @@ module _ {S L M T R : Type 0} (m : Meanings S L M T R) (good : S → Epoch → �
       let P : Stage → Type 0 = HasLocal m good setup (sight (record run { core = ended run.core outcome }) view.rank) view in
       subst P (sym (stage_dissolved run.core view.rank)) (by_stage (stage run.core view.rank) refl awaits agrees)
     where
-      the : {a b : Outcome} → Some a ≡ Some b → a ≡ b
-      the {a = a} same = ap (λ o. elim o [ Some v ↦ v | None ↦ a ]) same
-
       unfinished : (s : Stage) → stage run.core view.rank ≡ s → (is_gone s || has_finished_rounds s) ≡ false → Some outcome ≡ Some outcomes.Finished → ⊥
       unfinished s at undone ends =
-          let e : true ≡ false = sym (done (the ends)) ∙ ap (λ t. is_gone t || has_finished_rounds t) at ∙ undone in cc
+          let e : true ≡ false = sym (done (same_Some _ _ ends)) ∙ ap (λ t. is_gone t || has_finished_rounds t) at ∙ undone in cc
 
       by_stage : (s : Stage) → stage run.core view.rank ≡ s → is_awaited s ≡ false → HasLocal m good setup (sight run view.rank) view s
           → HasLocal m good setup (sight (record run { core = ended run.core outcome }) view.rank) view (after_decision s)
@@ -242,17 +241,12 @@ module _ {S L M T R : Type 0} (m : Meanings S L M T R) (good : S → Epoch → �
       by_ripe false unripe = agrees
       by_ripe true ripe = agrees_decided (run_happened m setup run event) (decision (happened run.core event (will_be_filled m setup run (actor event)))) view stand ranked
           (nobody_any is_awaited (happened run.core event (will_be_filled m setup run (actor event))) refl
-          (unnot _ (second_of_two (not (is_some (happened run.core event (will_be_filled m setup run (actor event))).outcome)) _ ripe)) view.rank)
+          (not-true _ (and_parts (not (is_some (happened run.core event (will_be_filled m setup run (actor event))).outcome)) _ ripe).1) view.rank)
           (running_where_ripe (happened run.core event (will_be_filled m setup run (actor event))) ripe)
           still_good
           (commit_when_done (happened run.core event (will_be_filled m setup run (actor event))))
           (restore_fits (happened run.core event (will_be_filled m setup run (actor event))))
           agrees
-        where
-          unnot : (b : Bool) → not b ≡ true → b ≡ false
-          unnot true still = absurd (cc)
-          unnot false _ = refl
-
       by_event : (b : Bool) → Agrees m good setup (sight (if b then run_settled m setup (run_happened m setup run event) else run_happened m setup run event) view.rank) view stand
       by_event true = by_ripe (is_ripe (happened run.core event (will_be_filled m setup run (actor event)))) refl
       by_event false = agrees

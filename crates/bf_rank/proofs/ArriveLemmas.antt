@@ -1,7 +1,7 @@
 -- What a rank's account gives for its arrivals, its leaves and its waiting.
 use Rattle.std.proofs.Common.{◌≡◌, ℕ, Bool, true, false, cond, ◌&&◌, not, List, [], ◌∷◌, length, nat_lt, refl, sym, ◌∙◌, ap}
 use Rattle.std.specs.Prelude.{◌==◌, Option, Some, None, slice_get, if◌then◌else◌}
-use Rattle.std.proofs.lemmas.Bool.{eq-eqb, ltb-false}
+use Rattle.std.proofs.lemmas.Bool.{eq-eqb, ltb-false, both_ways, and_parts}
 use Rattle.std.proofs.lemmas.Option.{slice_get_past}
 use Rattle.bf_program.specs.declared.epoch.Epoch.{Epoch}
 use Rattle.bf_program.specs.Meanings.{Meanings}
@@ -81,18 +81,6 @@ module _ {S L M T R : Type 0} (m : Meanings S L M T R) (good : S → Epoch → �
     here = ap (λ l. (m.parcel l).0) here.here ∙ ap (λ b. if b then (m.parcel here.first).0 else here.first) (sym ends);
   }
 
-first_of_two : (a b : Bool) → (a && b) ≡ true → a ≡ true
-first_of_two true b holds = refl
-first_of_two false b holds = holds
-
-second_of_two : (a b : Bool) → (a && b) ≡ true → b ≡ true
-second_of_two true b holds = holds
-second_of_two false b holds = absurd (cc)
-
-clash : (b : Bool) → b ≡ true → b ≡ false → ⊥
-clash true is_true is_false = absurd (cc)
-clash false is_true is_false = absurd (cc)
-
 -- the number that there may be
 lacks : (o : Option ℕ) (n : ℕ) → o ≡ None → is_just o n ≡ true → ⊥
 lacks o n none is_just_n = let e : false ≡ true = ap (λ x. is_just x n) (sym none) ∙ is_just_n in cc
@@ -110,24 +98,24 @@ all_sent (Rounds round sent received peers) peer next = (by_sent (nat_lt sent (l
 pub waiting_offers_nothing : (core : State) (rank peer : ℕ) (place : Place) → is_due core rank ≡ false → stage core rank ≡ Running → next_receive place ≡ Some peer
     → queue core peer rank ≡ 0 → has_dead_member core ≡ false → is_short_of_memory core ≡ false → (event : Event) → IsOffered core rank place event → ⊥
 waiting_offers_nothing core rank peer place undue runs next empty alive fits (Send r to blocks sum) offered =
-    lacks (next_send place) to (all_sent place peer next).0 (second_of_two (is_active core r) _ offered.legal)
+    lacks (next_send place) to (all_sent place peer next).0 (and_parts (is_active core r) _ offered.legal).1
 waiting_offers_nothing core rank peer place undue runs next empty alive fits (Recv r p) offered =
-    clash _ (second_of_two (is_active core r && is_just (next_receive place) p) _ offered.legal)
-    (ap not (ap (λ q. waits core q place) offered.its ∙ ap (is_empty_from core rank) next ∙ eq-eqb (queue core peer rank) 0 empty))
+    both_ways _ (ap not (ap (λ q. waits core q place) offered.its ∙ ap (is_empty_from core rank) next ∙ eq-eqb (queue core peer rank) 0 empty))
+    (and_parts (is_active core r && is_just (next_receive place) p) _ offered.legal).1
 waiting_offers_nothing core rank peer place undue runs next empty alive fits (Arrive r Done) offered =
-    clash (is_past place) (second_of_two (is_active core r) _ offered.legal) (all_sent place peer next).1
+    both_ways (is_past place) (all_sent place peer next).1 (and_parts (is_active core r) _ offered.legal).1
 waiting_offers_nothing core rank peer place undue runs next empty alive fits (Arrive r Broken) offered =
-    clash (has_dead_member core) (second_of_two (is_active core r && waits core r place) _ offered.legal) alive
+    both_ways (has_dead_member core) alive (and_parts (is_active core r && waits core r place) _ offered.legal).1
 waiting_offers_nothing core rank peer place undue runs next empty alive fits (Arrive r Memory) offered =
-    clash (is_short_of_memory core) (second_of_two (waits core rank place && not (has_dead_member core)) _ (offered.memory refl)) fits
+    both_ways (is_short_of_memory core) fits (and_parts (waits core rank place && not (has_dead_member core)) _ (offered.memory refl)).1
 waiting_offers_nothing core rank peer place undue runs next empty alive fits (Leave r) offered =
-    clash (is_leaving (stage core r)) (first_of_two (is_leaving (stage core r)) _ offered.legal) (ap (λ q. is_leaving (stage core q)) offered.its ∙ ap is_leaving runs)
+    both_ways (is_leaving (stage core r)) (ap (λ q. is_leaving (stage core q)) offered.its ∙ ap is_leaving runs) (and_parts (is_leaving (stage core r)) _ offered.legal).0
 waiting_offers_nothing core rank peer place undue runs next empty alive fits (Die r) offered =
-    clash (is_due core r) offered.legal (ap (is_due core) offered.its ∙ undue)
+    both_ways (is_due core r) (ap (is_due core) offered.its ∙ undue) offered.legal
 
 -- a rank that does not do its rounds is not active
 inactive : (core : State) (rank : ℕ) → is_running (stage core rank) ≡ false → is_active core rank ≡ true → ⊥
-inactive core rank rests active = clash (is_running (stage core rank)) (first_of_two (is_running (stage core rank)) _ active) rests
+inactive core rank rests active = both_ways (is_running (stage core rank)) rests (and_parts (is_running (stage core rank)) _ active).0
 
 -- a rank that has arrived in an epoch that is not decided is offered nothing
 pub arrived_offers_nothing : (core : State) (rank : ℕ) (place : Place) → is_due core rank ≡ false → is_arrived (stage core rank) ≡ true
@@ -160,10 +148,10 @@ arrived_offers_nothing core rank place undue arrived event offered = by_event ev
     quiet r same active = inactive core rank rests (ap (is_active core) (sym same) ∙ active)
 
     by_event : (event : Event) → actor event ≡ rank → is_legal core event place ≡ true → ⊥
-    by_event (Send r to blocks sum) same legal = quiet r same (first_of_two (is_active core r) _ legal)
-    by_event (Recv r p) same legal = quiet r same (first_of_two (is_active core r) _ (first_of_two (is_active core r && is_just (next_receive place) p) _ legal))
-    by_event (Arrive r Done) same legal = quiet r same (first_of_two (is_active core r) _ legal)
-    by_event (Arrive r Broken) same legal = quiet r same (first_of_two (is_active core r) _ (first_of_two (is_active core r && waits core r place) _ legal))
+    by_event (Send r to blocks sum) same legal = quiet r same (and_parts (is_active core r) _ legal).0
+    by_event (Recv r p) same legal = quiet r same (and_parts (is_active core r) _ (and_parts (is_active core r && is_just (next_receive place) p) _ legal).0).0
+    by_event (Arrive r Done) same legal = quiet r same (and_parts (is_active core r) _ legal).0
+    by_event (Arrive r Broken) same legal = quiet r same (and_parts (is_active core r) _ (and_parts (is_active core r && waits core r place) _ legal).0).0
     by_event (Arrive r Memory) same legal = quiet r same legal
-    by_event (Leave r) same legal = clash (is_leaving (stage core r)) (first_of_two (is_leaving (stage core r)) _ legal) (ap (λ q. is_leaving (stage core q)) same ∙ stays)
-    by_event (Die r) same legal = clash (is_due core r) legal (ap (is_due core) same ∙ undue)
+    by_event (Leave r) same legal = both_ways (is_leaving (stage core r)) (ap (λ q. is_leaving (stage core q)) same ∙ stays) (and_parts (is_leaving (stage core r)) _ legal).0
+    by_event (Die r) same legal = both_ways (is_due core r) (ap (is_due core) same ∙ undue) legal

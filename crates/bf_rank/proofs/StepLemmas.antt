@@ -2,7 +2,9 @@
 use Rattle.std.proofs.Common.{◌≡◌, ℕ, zero, suc, ◌+◌, ◌<◌, Bool, true, false, cond, ◌||◌, not, List, [], ◌∷◌, length, take, arith, refl, sym, subst, ◌∙◌, ap}
 use Rattle.std.specs.Prelude.{◌==◌, Some, None, slice_get}
 use Rattle.std.specs.List.{fold}
-use Rattle.std.proofs.lemmas.Bool.{eqb-true, eq-eqb}
+use Rattle.std.proofs.lemmas.Bool.{eqb-true, eq-eqb, or_right}
+use Rattle.std.proofs.lemmas.Option.{same_Some}
+use Rattle.bf_world.proofs.PeerLemmas.{member_at}
 use Rattle.bf_buddy.specs.Members.{is_member}
 use Rattle.bf_buddy.specs.Buddy.{place_of}
 use Rattle.bf_program.specs.declared.epoch.Epoch.{Epoch}
@@ -13,37 +15,23 @@ use Rattle.bf_program.proofs.SeatLemmas.{local_changed}
 use Rattle.bf_world.specs.Course.{local_at}
 use Rattle.bf_world.proofs.MemberLemmas.{Apart}
 
--- the element that there is
-the : {A : Type 0} {a b : A} → Some a ≡ Some b → a ≡ b
-the {a = a} same = ap (λ o. elim o [ Some v ↦ v | None ↦ a ]) same
-
 -- a fold over one more element
 fold_more : {A B : Type 0} (f : B → A → B) (b : B) (xs : List A) (i : ℕ) (x : A) → slice_get xs i ≡ Some x → fold f b (take (i + 1) xs) ≡ f (fold f b (take i xs)) x
 fold_more f b [] i x found = absurd (cc)
-fold_more f b (y ∷ ys) zero x found = ap (f b) (the found)
+fold_more f b (y ∷ ys) zero x found = ap (f b) (same_Some _ _ found)
 fold_more {A = A} f b (y ∷ ys) (suc i) x found =
     let more : suc i + 1 ≡ suc (i + 1) = omega arith in
     let P : ℕ → Type 0 = λ n. fold f b (take n (y ∷ ys)) ≡ f (fold f (f b y) (take i ys)) x in
     subst P (sym more) (fold_more f (f b y) ys i x found)
 
--- an element stands among the rest
-among : (xs : List ℕ) (i x : ℕ) → slice_get xs i ≡ Some x → is_member xs x ≡ true
-among [] i x found = absurd (cc)
-among (y ∷ ys) zero x found = ap (λ b. b || is_member ys x) (eq-eqb y x (the found))
-among (y ∷ ys) (suc i) x found = in_rest (y == x) (is_member ys x) (among ys i x found)
-  where
-    in_rest : (a b : Bool) → b ≡ true → (a || b) ≡ true
-    in_rest true b holds = refl
-    in_rest false b holds = holds
-
 -- the place of an element that stands once
 place_at : (xs : List ℕ) (i x : ℕ) → Apart xs → slice_get xs i ≡ Some x → place_of xs x ≡ i
 place_at [] i x apart found = absurd (cc)
-place_at (y ∷ ys) zero x apart found = ap (λ b. cond (not b) (1 + place_of ys x) 0) (eq-eqb y x (the found))
+place_at (y ∷ ys) zero x apart found = ap (λ b. cond (not b) (1 + place_of ys x) 0) (eq-eqb y x (same_Some _ _ found))
 place_at (y ∷ ys) (suc i) x apart found = by_first (y == x) refl (place_at ys i x apart.1 found)
   where
     by_first : (b : Bool) → (y == x) ≡ b → place_of ys x ≡ i → cond (not b) (1 + place_of ys x) 0 ≡ suc i
-    by_first true same _ = absurd (let e : false ≡ true = sym apart.0 ∙ ap (is_member ys) (eqb-true y x same) ∙ among ys i x found in cc)
+    by_first true same _ = absurd (let e : false ≡ true = sym apart.0 ∙ ap (is_member ys) (eqb-true y x same) ∙ member_at ys i x found in cc)
     by_first false other rest = omega (arith, rest)
 
 module _ {S L M T R : Type 0} (m : Meanings S L M T R) (good : S → Epoch → ℕ → List L → Type 0) (setup : S) (epoch : Epoch) (start : List L)

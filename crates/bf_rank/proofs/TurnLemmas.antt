@@ -2,7 +2,7 @@
 use Rattle.std.proofs.Common.{◌≡◌, ◌≢◌, ℕ, ◌+◌, ◌<◌, ◌≤◌, Bool, true, false, cond, List, [], ◌∷◌, length, nat_lt, arith, refl, sym, subst, ◌∙◌, ap}
 use Rattle.std.specs.Prelude.{Option, Some, None, slice_get}
 use Rattle.std.proofs.lemmas.Bool.{ltb-false, lt-ltb, le-ltb}
-use Rattle.std.proofs.lemmas.Option.{slice_get_within}
+use Rattle.std.proofs.lemmas.Option.{slice_get_within, same_Some}
 use Rattle.bf_program.specs.declared.epoch.Epoch.{Epoch}
 use Rattle.bf_program.specs.Meanings.{Meanings}
 use Rattle.bf_program.specs.Lockstep.{after_sends, message, after_receives, lockstep}
@@ -93,12 +93,9 @@ module _ {S L M T R : Type 0} (m : Meanings S L M T R) (good : S → Epoch → �
   unfolding message_at
   sender_of from to round msg its = by_local (local_at m setup seen.epoch seen.start from round) refl its
     where
-      the : (a b : M) → Some a ≡ Some b → a ≡ b
-      the a b same = ap (λ o. elim o [ Some v ↦ v | None ↦ a ]) same
-
       by_local : (o : Option L) → local_at m setup seen.epoch seen.start from round ≡ o → message_with m setup seen.epoch seen.start round to o ≡ Some msg
           → (sender : L) × ((local_at m setup seen.epoch seen.start from round ≡ Some sender) × (msg ≡ message m setup seen.epoch round sender to))
-      by_local (Some sender) found same = (sender, (found, sym (the (message m setup seen.epoch round sender to) msg same)))
+      by_local (Some sender) found same = (sender, (found, sym (same_Some (message m setup seen.epoch round sender to) msg same)))
       by_local None none lacks = absurd (cc)
 
   pub may_take : (round sent received : ℕ) (peers : List ℕ) (peer : ℕ) (msg : M) (local : L) → IsInRound m setup seen.epoch seen.start rank round sent received peers

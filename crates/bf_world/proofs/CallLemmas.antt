@@ -1,7 +1,7 @@
 -- The calls of a world: each notes a legal event, and leaves a world.
 use Rattle.std.proofs.Common.{◌≡◌, ℕ, ◌+◌, ◌-◌, ◌*◌, ◌^◌, ◌<◌, ◌≤◌, Bool, true, false, ◌&&◌, ◌||◌, not, List, [], ◌∷◌, ◌++◌, filter, drop, length, arith, refl, sym, subst, ◌∙◌, ap}
 use Rattle.std.specs.Prelude.{◌==◌, Option, Some, None, slice_get, if◌then◌else◌}
-use Rattle.std.proofs.lemmas.Bool.{eq-eqb, eqb-true}
+use Rattle.std.proofs.lemmas.Bool.{eq-eqb, eqb-true, and_parts, and_from}
 use Rattle.std.proofs.lemmas.Option.{slice_get_within}
 use Rattle.std.proofs.lemmas.List.{append-nil}
 use Rattle.bf_program.specs.declared.epoch.Epoch.{Epoch}
@@ -15,19 +15,19 @@ use Rattle.bf_core.specs.declared.event.How.{How}
 use Rattle.bf_core.specs.declared.event.How.TheVariants.{Done, Broken, Memory}
 use Rattle.bf_core.specs.declared.standing.Stage.TheVariants.{Arrived, Dead}
 use Rattle.bf_core.specs.Stages.{is_leaving, is_arrived, goes_on}
-use Rattle.bf_core.specs.Places.{is_past}
+use Rattle.bf_core.specs.Places.{is_past, round_of}
 use Rattle.bf_core.specs.States.{State, stage, queue, is_due, is_active, has_dead_member}
 use Rattle.bf_core.specs.Legal.{actor, waits, is_empty_from}
 use Rattle.bf_core.specs.Next.{may_decide, happened, is_ripe, settled, next, with_stage}
 use Rattle.bf_core.proofs.NextLemmas.{next_settings}
 use Rattle.bf_core.proofs.StageLemmas.{is_rank, stage_same}
-use Rattle.bf_core.proofs.SoundLemmas.{first_of_two, acting, in_list}
+use Rattle.bf_core.proofs.SoundLemmas.{acting, in_list}
 use Rattle.bf_world.specs.declared.answers.Arrival.TheVariants as arrivals
 use Rattle.bf_world.specs.Course.{message_at}
 use Rattle.bf_world.specs.Journals.{Noted}
 use Rattle.bf_world.specs.Messages.{AreQueuesOf}
 use Rattle.bf_world.specs.Queues.{Waiting, messages, with_messages, no_messages}
-use Rattle.bf_world.specs.Runs.{Run, place, round_of, will_be_filled, parcel_of, run_happened, run_settled, next_run, is_measured, is_legal_in, run_after}
+use Rattle.bf_world.specs.Runs.{Run, place, will_be_filled, parcel_of, run_happened, run_settled, next_run, is_measured, is_legal_in, run_after}
 use Rattle.bf_world.specs.Settled.{waiting_settled, parcels_settled, restores_settled, given}
 use Rattle.bf_world.specs.Worlds.{View, IsWorld, IsParcel, ArrivesAs, SendsNext, ReceivesNext, core_after, place_after, message_after, room_needed, is_restore, brings_decision, brings_restore}
 use Rattle.bf_world.proofs.HoldLemmas.{first_and_rest}
@@ -37,7 +37,7 @@ use Rattle.bf_world.proofs.MessageLemmas.{receives_from_peer}
 use Rattle.bf_world.proofs.NeedLemmas.{need_short, need_left, need_died}
 use Rattle.bf_world.proofs.StopLemmas.{is_stopped, no_restore, waiting_told, parcels_told, restores_told}
 use Rattle.bf_world.proofs.WeightLemmas.{restores_few}
-use Rattle.bf_world.proofs.WorldLemmas.{and_both, just_same, room_left, its_lawful, legal_alone, need_within, world_next}
+use Rattle.bf_world.proofs.WorldLemmas.{just_same, room_left, its_lawful, legal_alone, need_within, world_next}
 
 -- what is asked of a world as it is seen, of its fields
 pub of_fields : {S M T : Type 0} (P : S → List Event → Waiting M → List (ℕ × T) → Type 0) (setup : S) (journal : List Event) (waiting : Waiting M) (parcels : List (ℕ × T)) (view : View S M T)
@@ -84,8 +84,8 @@ module _ {S L M T R : Type 0} (m : Meanings S L M T R) (good : S → Epoch → �
       → is_legal_in m setup (run_after m setup noted.events) (Send rank to (m.measure msg).blocks (m.measure msg).sum) ≡ true
   unfolding is_legal_in
   sends_legal rank to msg sends =
-      and_both _ _ (and_both _ _ sends.active (just_same _ to sends.next))
-      (ap (λ o. is_measured m setup o (m.measure msg).blocks (m.measure msg).sum) sends.its ∙ and_both _ _ (eq-eqb (m.measure msg).blocks (m.measure msg).blocks refl) (eq-eqb (m.measure msg).sum (m.measure msg).sum refl))
+      and_from _ _ (and_from _ _ sends.active (just_same _ to sends.next))
+      (ap (λ o. is_measured m setup o (m.measure msg).blocks (m.measure msg).sum) sends.its ∙ and_from _ _ (eq-eqb (m.measure msg).blocks (m.measure msg).blocks refl) (eq-eqb (m.measure msg).sum (m.measure msg).sum refl))
 
   pub measured_legal : (rank to : ℕ) (msg : M) (measured : Measure) → measured ≡ m.measure msg → SendsNext m setup noted.events rank to msg
       → is_legal_in m setup (run_after m setup noted.events) (Send rank to measured.blocks measured.sum) ≡ true
@@ -136,7 +136,7 @@ module _ {S L M T R : Type 0} (m : Meanings S L M T R) (good : S → Epoch → �
       → is_legal_in m setup (run_after m setup noted.events) (Recv rank peer) ≡ true
   unfolding is_legal_in
   receives_legal rank peer receives some =
-      and_both _ _ (and_both _ _ (and_both _ _ receives.active (just_same _ peer receives.next))
+      and_from _ _ (and_from _ _ (and_from _ _ receives.active (just_same _ peer receives.next))
       (ap (λ o. not (is_empty_from run.core rank o)) receives.next ∙ waits_not (queue run.core peer rank) (queue run.core peer rank == 0) refl had)) refl
     where
       had : 0 < queue run.core peer rank
@@ -178,27 +178,27 @@ module _ {S L M T R : Type 0} (m : Meanings S L M T R) (good : S → Epoch → �
       → is_legal_in m setup (run_after m setup noted.events) (Arrive rank Broken) ≡ true
   unfolding is_legal_in
   breaks_legal rank peer receives none dead =
-      and_both _ _ (and_both _ _ (and_both _ _ receives.active
+      and_from _ _ (and_from _ _ (and_from _ _ receives.active
       (ap (is_empty_from run.core rank) receives.next ∙ eq-eqb (queue run.core peer rank) 0 (queue_is peer rank ∙ ap length none)))
       (ap has_dead_member (sym world.core_is) ∙ dead)) refl
 
   pub shorts_legal : (rank : ℕ) → is_active (core_after m setup noted.events) rank ≡ true → is_legal_in m setup (run_after m setup noted.events) (Arrive rank Memory) ≡ true
   unfolding is_legal_in
-  shorts_legal rank active = and_both _ _ active refl
+  shorts_legal rank active = and_from _ _ active refl
 
   pub dones_legal : (rank : ℕ) → is_active (core_after m setup noted.events) rank ≡ true → is_past (place_after m setup noted.events rank) ≡ true
       → is_legal_in m setup (run_after m setup noted.events) (Arrive rank Done) ≡ true
   unfolding is_legal_in
-  dones_legal rank active past = and_both _ _ (and_both _ _ active past) refl
+  dones_legal rank active past = and_from _ _ (and_from _ _ active past) refl
 
   pub dies_legal : (rank : ℕ) → is_due (core_after m setup noted.events) rank ≡ true → is_legal_in m setup (run_after m setup noted.events) (Die rank) ≡ true
   unfolding is_legal_in
-  dies_legal rank due = and_both _ _ due refl
+  dies_legal rank due = and_from _ _ due refl
 
   pub leaves_legal : (rank : ℕ) → is_leaving (stage (core_after m setup noted.events) rank) ≡ true → is_due (core_after m setup noted.events) rank ≡ false
       → is_legal_in m setup (run_after m setup noted.events) (Leave rank) ≡ true
   unfolding is_legal_in
-  leaves_legal rank leaving undue = and_both _ _ (and_both _ _ leaving (ap not undue)) refl
+  leaves_legal rank leaving undue = and_from _ _ (and_from _ _ leaving (ap not undue)) refl
 
   pub world_left : (rank : ℕ) (core_later : State) (later : Noted) → is_leaving (stage (core_after m setup noted.events) rank) ≡ true
       → is_due (core_after m setup noted.events) rank ≡ false → later.events ≡ noted.events ++ Leave rank ∷ [] → core_later ≡ next core (Leave rank) false
@@ -248,8 +248,8 @@ module _ {S L M T R : Type 0} (m : Meanings S L M T R) (good : S → Epoch → �
 
   pub broken_active : (rank : ℕ) → is_legal_in m setup (run_after m setup noted.events) (Arrive rank Broken) ≡ true → is_active (core_after m setup noted.events) rank ≡ true
   broken_active rank legal =
-      first_of_two (is_active run.core rank) _
-      (first_of_two (is_active run.core rank && waits run.core rank (place run rank)) _ (legal_alone m good setup limits goods stores peers run (Arrive rank Broken) legal))
+      (and_parts (is_active run.core rank) _
+      (and_parts (is_active run.core rank && waits run.core rank (place run rank)) _ (legal_alone m good setup limits goods stores peers run (Arrive rank Broken) legal)).0).0
 
   arrived_stage : (rank : ℕ) (how : How) (filled : Bool) → is_active (core_after m setup noted.events) rank ≡ true
       → is_stopped (stage (with_stage (core_after m setup noted.events) rank (Arrived how filled)) rank) ≡ true
@@ -262,7 +262,7 @@ module _ {S L M T R : Type 0} (m : Meanings S L M T R) (good : S → Epoch → �
   active_within rank active = within rank (in_list run.core rank (acting run.core rank active))
 
   pub due_within : (rank : ℕ) → is_due (core_after m setup noted.events) rank ≡ true → rank < core.ranks
-  due_within rank due = within rank (is_rank goes_on run.core rank refl (first_of_two (goes_on (stage run.core rank)) _ due))
+  due_within rank due = within rank (is_rank goes_on run.core rank refl (and_parts (goes_on (stage run.core rank)) _ due).0)
 
   pub arrived_within : (rank : ℕ) → (is_arrived (stage (core_after m setup noted.events) rank) || is_leaving (stage (core_after m setup noted.events) rank)) ≡ true → rank < core.ranks
   arrived_within rank arrived = within rank (is_rank (λ s. is_arrived s || is_leaving s) run.core rank refl arrived)
@@ -336,7 +336,7 @@ module _ {S L M T R : Type 0} (m : Meanings S L M T R) (good : S → Epoch → �
         let needs : room_needed core_later + 1 ≤ room_needed core =
         subst (λ state. room_needed state + 1 ≤ room_needed core) (sym core_is) (need_died core rank false (ap (λ state. is_due state rank) world.core_is ∙ due)) in
         let forgets : State → List (ℕ × T) → List (ℕ × T) = λ state given_before. if is_arrived (stage state rank) then filter (λ parcel. not (parcel.0 == rank)) given_before else given_before in
-        let goes : goes_on (stage run.core rank) ≡ true = first_of_two (goes_on (stage run.core rank)) _ due in
+        let goes : goes_on (stage run.core rank) ≡ true = (and_parts (goes_on (stage run.core rank)) _ due).0 in
         world_stopped (Die rank) rank before core_later waiting_later later parcels_later restores_later refl (dies_legal rank due)
         (ap is_stopped (stage_same run.core rank Dead (is_rank goes_on run.core rank refl goes))) (died_queues m setup run waiting rank world.queues)
         (before_is ∙ ap (λ state. forgets state parcels) world.core_is ∙ ap (forgets run.core) world.parcels_are) events_are core_is

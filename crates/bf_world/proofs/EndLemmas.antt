@@ -2,7 +2,7 @@
 use Rattle.std.proofs.Common.{◌≡◌, ℕ, zero, suc, ◌<◌, Bool, true, false, ◌&&◌, ◌||◌, not, List, [], ◌∷◌, map, length, replicate, arith, refl, sym, subst, ◌∙◌, ap, inl, inr}
 use Rattle.std.specs.Prelude.{◌⊎◌, Option, Some, None, is_some, if◌then◌else◌}
 use Rattle.std.specs.List.{list_any}
-use Rattle.std.proofs.lemmas.Bool.{cases_eq}
+use Rattle.std.proofs.lemmas.Bool.{cases_eq, not-true, or_right, or_left, and_parts}
 use Rattle.std.proofs.lemmas.List.{nil_from_length}
 use Rattle.bf_program.specs.declared.epoch.Epoch.{Epoch}
 use Rattle.bf_program.specs.Meanings.{Meanings}
@@ -24,11 +24,13 @@ use Rattle.std.specs.Prelude.{◌==◌, All}
 use Rattle.bf_buddy.specs.Members.{is_member}
 use Rattle.std.proofs.Math.ListN.{get_or}
 use Rattle.std.proofs.lemmas.Bool.{eqb-true}
+use Rattle.std.proofs.Math.Bool.{or_assoc, or-false}
+use Rattle.bf_core.proofs.RollLemmas.{short_after}
 use Rattle.bf_core.proofs.ListLemmas.{found}
 use Rattle.bf_core.proofs.StageLemmas.{Someone, someone, nobody_any, is_rank, stage_same, stage_other}
-use Rattle.bf_core.proofs.SoundLemmas.{is_open, first_of_two, acting, in_list, leaving_stage, opening_fails}
+use Rattle.bf_core.proofs.SoundLemmas.{is_open, acting, in_list, leaving_stage, opening_fails}
 use Rattle.bf_core.proofs.ArrivalLemmas.{has_ended, decided_stage}
-use Rattle.bf_core.proofs.LawLemmas.{Losses, IsSameEpoch, same_epoch, running_where_ripe, second_of_two, next_settles, next_happens, ripe_decides, unripe_waits, decided_outcome}
+use Rattle.bf_core.proofs.LawLemmas.{Losses, IsSameEpoch, same_epoch, running_where_ripe, next_settles, next_happens, ripe_decides, unripe_waits, decided_outcome}
 use Rattle.bf_core.proofs.DecideLemmas.{decision_wants, ends_memory}
 use Rattle.bf_world.specs.Ends.{NobodyDies}
 use Rattle.bf_world.specs.Messages.{AreQueuesOf}
@@ -55,57 +57,41 @@ staged_caused state rank to told later within its more caused = record {
   memory = λ ends. more (caused.memory ends);
 }
 
-first_holds : (a b : Bool) → a ≡ true → (a || b) ≡ true
-first_holds true b holds = refl
-first_holds false b holds = absurd (cc)
-
-second_holds : (a b : Bool) → b ≡ true → (a || b) ≡ true
-second_holds true b holds = refl
-second_holds false b holds = holds
-
 happened_caused : (state : State) (event : Event) (place : Place) (filled told : Bool) → is_legal state event place ≡ true → IsCaused told state
     → IsCaused (told || is_memory event) (happened state event filled)
 happened_caused state (Send rank to blocks sum) place filled told legal caused =
-    let runs : stage state rank ≡ Running = acting state rank (first_of_two (is_active state rank) _ legal) in
+    let runs : stage state rank ≡ Running = acting state rank (and_parts (is_active state rank) _ legal).0 in
     let kept : IsCaused (told || false) (with_stage state rank (stage state rank)) =
-    staged_caused state rank (stage state rank) told (told || false) (in_list state rank runs) (λ short. absurd (let e : true ≡ false = sym short ∙ ap is_short runs in cc)) (first_holds told false) caused in
+    staged_caused state rank (stage state rank) told (told || false) (in_list state rank runs) (λ short. absurd (let e : true ≡ false = sym short ∙ ap is_short runs in cc)) (or_left told false) caused in
     record { short = kept.short; memory = kept.memory }
 happened_caused state (Recv rank peer) place filled told legal caused =
-    let runs : stage state rank ≡ Running = acting state rank (first_of_two (is_active state rank) _ (first_of_two (is_active state rank && is_just (next_receive place) peer) _ legal)) in
+    let runs : stage state rank ≡ Running = acting state rank (and_parts (is_active state rank) _ (and_parts (is_active state rank && is_just (next_receive place) peer) _ legal).0).0 in
     let kept : IsCaused (told || false) (with_stage state rank (stage state rank)) =
-    staged_caused state rank (stage state rank) told (told || false) (in_list state rank runs) (λ short. absurd (let e : true ≡ false = sym short ∙ ap is_short runs in cc)) (first_holds told false) caused in
+    staged_caused state rank (stage state rank) told (told || false) (in_list state rank runs) (λ short. absurd (let e : true ≡ false = sym short ∙ ap is_short runs in cc)) (or_left told false) caused in
     record { short = kept.short; memory = kept.memory }
 happened_caused state (Arrive rank Done) place filled told legal caused =
-    staged_caused state rank (Arrived Done filled) told (told || false) (in_list state rank (acting state rank (first_of_two (is_active state rank) _ legal)))
-    (λ short. absurd (cc)) (first_holds told false) caused
+    staged_caused state rank (Arrived Done filled) told (told || false) (in_list state rank (acting state rank (and_parts (is_active state rank) _ legal).0))
+    (λ short. absurd (cc)) (or_left told false) caused
 happened_caused state (Arrive rank Broken) place filled told legal caused =
     staged_caused state rank (Arrived Broken false) told (told || false)
-    (in_list state rank (acting state rank (first_of_two (is_active state rank) _ (first_of_two (is_active state rank && waits state rank place) _ legal))))
-    (λ short. absurd (cc)) (first_holds told false) caused
+    (in_list state rank (acting state rank (and_parts (is_active state rank) _ (and_parts (is_active state rank && waits state rank place) _ legal).0).0))
+    (λ short. absurd (cc)) (or_left told false) caused
 happened_caused state (Arrive rank Memory) place filled told legal caused =
-    staged_caused state rank (Arrived Memory false) told (told || true) (in_list state rank (acting state rank legal)) (λ _. second_holds told true refl) (first_holds told true) caused
+    staged_caused state rank (Arrived Memory false) told (told || true) (in_list state rank (acting state rank legal)) (λ _. or_right told true refl) (or_left told true) caused
 happened_caused state (Leave rank) place filled told legal caused =
-    let leaving : stage state rank ≡ Leaving = leaving_stage state rank (first_of_two (is_leaving (stage state rank)) _ legal) in
+    let leaving : stage state rank ≡ Leaving = leaving_stage state rank (and_parts (is_leaving (stage state rank)) _ legal).0 in
     staged_caused state rank (if is_some state.outcome then Ended else Running) told (told || false) (is_rank is_leaving state rank refl (ap is_leaving leaving))
-    (λ short. absurd (let e : true ≡ false = sym short ∙ by_end (is_some state.outcome) in cc)) (first_holds told false) caused
+    (λ short. absurd (let e : true ≡ false = sym short ∙ by_end (is_some state.outcome) in cc)) (or_left told false) caused
   where
     by_end : (b : Bool) → is_short (if b then Ended else Running) ≡ false
     by_end true = refl
     by_end false = refl
 happened_caused state (Die rank) place filled told legal caused =
-    staged_caused state rank Dead told (told || false) (is_rank goes_on state rank refl (first_of_two (goes_on (stage state rank)) _ legal)) (λ short. absurd (cc)) (first_holds told false) caused
-
-after_fits : (s : Stage) → is_short (after_decision s) ≡ false
-after_fits Running = refl
-after_fits (Arrived how filled) = refl
-after_fits Leaving = refl
-after_fits Ended = refl
-after_fits Dead = refl
-after_fits Gone = refl
+    staged_caused state rank Dead told (told || false) (is_rank goes_on state rank refl (and_parts (goes_on (stage state rank)) _ legal).0) (λ short. absurd (cc)) (or_left told false) caused
 
 decided_caused : (state : State) (told : Bool) → state.outcome ≡ None → IsCaused told state → IsCaused told (decided state (decision state))
 decided_caused state told none caused = record {
-  short = λ rank short. absurd (let e : true ≡ false = sym short ∙ ap is_short (decided_stage state (decision state) rank) ∙ after_fits (stage state rank) in cc);
+  short = λ rank short. absurd (let e : true ≡ false = sym short ∙ ap is_short (decided_stage state (decision state) rank) ∙ short_after (stage state rank) in cc);
   memory = λ ends.
       let wants : is_short_of_memory state ≡ true =
       (decision_wants state (ends_memory state (decision state) none (sym (decided_outcome state (decision state)) ∙ ends))).1 in
@@ -129,14 +115,6 @@ next_caused state event place filled told legal caused = by_event (may_decide ev
     by_event true may = subst (IsCaused (told || is_memory event)) (sym (next_settles state event filled may)) (by_ripe (is_ripe (happened state event filled)) refl)
     by_event false may = subst (IsCaused (told || is_memory event)) (sym (next_happens state event filled may)) before
 
-or_assoc : (a b c : Bool) → ((a || b) || c) ≡ (a || (b || c))
-or_assoc true b c = refl
-or_assoc false b c = refl
-
-or_none : (a : Bool) → a ≡ (a || false)
-or_none true = refl
-or_none false = refl
-
 -- what holds of all listed holds of each
 pub listed_all : (homes xs : List ℕ) (x : ℕ) → All (λ home. is_member homes home ≡ true) xs → is_member xs x ≡ true → is_member homes x ≡ true
 listed_all homes xs x all member =
@@ -152,13 +130,13 @@ module _ {S L M T R : Type 0} (m : Meanings S L M T R) (good : S → Epoch → �
   from_caused : (run : Run L T) (journal : List Event) (told : Bool) → is_legal_from m setup run journal ≡ true → IsCaused told run.core
       → IsCaused (told || list_any is_memory journal) (run_from m setup run journal).core
   unfolding is_legal_in
-  from_caused run [] told legal caused = let P : Bool → Type 0 = λ b. IsCaused b run.core in subst P (or_none told) caused
+  from_caused run [] told legal caused = let P : Bool → Type 0 = λ b. IsCaused b run.core in subst P (sym (or-false told)) caused
   from_caused run (event ∷ events) told legal caused =
-      let first : is_legal_in m setup run event ≡ true = first_of_two (is_legal_in m setup run event) _ legal in
-      let core_legal : is_legal run.core event (place run (actor event)) ≡ true = first_of_two (is_legal run.core event (place run (actor event))) _ first in
+      let first : is_legal_in m setup run event ≡ true = (and_parts (is_legal_in m setup run event) _ legal).0 in
+      let core_legal : is_legal run.core event (place run (actor event)) ≡ true = (and_parts (is_legal run.core event (place run (actor event))) _ first).0 in
       let P : Bool → Type 0 = λ b. IsCaused b (run_from m setup (next_run m setup run event) events).core in
       subst P (or_assoc told (is_memory event) (list_any is_memory events))
-      (from_caused (next_run m setup run event) events (told || is_memory event) (second_of_two (is_legal_in m setup run event) _ legal)
+      (from_caused (next_run m setup run event) events (told || is_memory event) (and_parts (is_legal_in m setup run event) _ legal).1
       (subst (IsCaused (told || is_memory event)) (sym (core_next m good setup goods stores run event))
       (next_caused run.core event (place run (actor event)) (will_be_filled m setup run (actor event)) told core_legal caused)))
 
@@ -195,10 +173,10 @@ module _ {S L M T R : Type 0} (m : Meanings S L M T R) (good : S → Epoch → �
 
       kept : (e : Event) → event ≡ e → (outcome : Outcome) → run.core.outcome ≡ Some outcome → (happened run.core e (will_be_filled m setup run (actor event))).queues ≡ run.core.queues
       kept (Send rank to blocks sum) is outcome ends =
-          absurd (over outcome ends rank (first_of_two (is_active run.core rank) _ (ap (λ e. is_legal run.core e (place run (actor e))) (sym is) ∙ legal)))
+          absurd (over outcome ends rank (and_parts (is_active run.core rank) _ (ap (λ e. is_legal run.core e (place run (actor e))) (sym is) ∙ legal)).0)
       kept (Recv rank peer) is outcome ends =
-          absurd (over outcome ends rank (first_of_two (is_active run.core rank) _ (first_of_two (is_active run.core rank && is_just (next_receive (place run rank)) peer) _
-          (ap (λ e. is_legal run.core e (place run (actor e))) (sym is) ∙ legal))))
+          absurd (over outcome ends rank (and_parts (is_active run.core rank) _ (and_parts (is_active run.core rank && is_just (next_receive (place run rank)) peer) _
+          (ap (λ e. is_legal run.core e (place run (actor e))) (sym is) ∙ legal)).0).0)
       kept (Arrive rank how) is outcome ends = refl
       kept (Leave rank) is outcome ends = refl
       kept (Die rank) is outcome ends = refl
@@ -224,9 +202,9 @@ module _ {S L M T R : Type 0} (m : Meanings S L M T R) (good : S → Epoch → �
   unfolding is_legal_in
   from_queues run [] lawful legal none = none
   from_queues run (event ∷ events) lawful legal none =
-      let first : is_legal_in m setup run event ≡ true = first_of_two (is_legal_in m setup run event) _ legal in
-      let core_legal : is_legal run.core event (place run (actor event)) ≡ true = first_of_two (is_legal run.core event (place run (actor event))) _ first in
-      from_queues (next_run m setup run event) events (next_lawful m good setup goods stores run event lawful first) (second_of_two (is_legal_in m setup run event) _ legal)
+      let first : is_legal_in m setup run event ≡ true = (and_parts (is_legal_in m setup run event) _ legal).0 in
+      let core_legal : is_legal run.core event (place run (actor event)) ≡ true = (and_parts (is_legal run.core event (place run (actor event))) _ first).0 in
+      from_queues (next_run m setup run event) events (next_lawful m good setup goods stores run event lawful first) (and_parts (is_legal_in m setup run event) _ legal).1
       (subst HasNoQueues (sym (core_next m good setup goods stores run event)) (next_queues run event lawful core_legal none))
 
   after_queues : KeepsLimits m setup → (journal : List Event) → is_journal m setup journal ≡ true → HasNoQueues (run_after m setup journal).core
@@ -277,12 +255,8 @@ module _ {S L M T R : Type 0} (m : Meanings S L M T R) (good : S → Epoch → �
       peaceful : IsPeaceful (run_after m setup journal).core
       peaceful = stays_peaceful limits losses nobody_dies journal legal
 
-      unnot : (b : Bool) → not b ≡ true → b ≡ false
-      unnot true still = absurd (cc)
-      unnot false _ = refl
-
       rests : goes_on (stage (run_after m setup journal).core 0) ≡ false
-      rests = nobody_any goes_on (run_after m setup journal).core refl (unnot _ complete) 0
+      rests = nobody_any goes_on (run_after m setup journal).core refl (not-true _ complete) 0
 
       life : lives (stage (run_after m setup journal).core 0) ≡ true
       life = peaceful.alive 0 (omega (arith, lawful.sound.size, lawful.steady.ranks, limits.some_rank))

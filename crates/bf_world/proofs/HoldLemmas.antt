@@ -13,13 +13,13 @@ use Rattle.bf_core.specs.declared.event.Event.TheVariants.{Send, Recv, Arrive, L
 use Rattle.bf_core.specs.declared.event.How.{How}
 use Rattle.bf_core.specs.declared.place.Place.{Place}
 use Rattle.bf_core.specs.declared.place.Place.TheVariants.{Past}
-use Rattle.bf_core.specs.Places.{next_send, next_receive}
+use Rattle.bf_core.specs.Places.{next_send, next_receive, round_of}
 use Rattle.bf_core.specs.Orders.{IsBehind}
 use Rattle.bf_core.specs.States.{State, channel}
 use Rattle.bf_world.specs.Course.{message_at, first_place, after_send, after_receive}
 use Rattle.bf_world.specs.Messages.{listed, sent_to, received_from, HoldsMessages}
 use Rattle.bf_world.specs.Queues.{Waiting, messages, with_messages, no_messages, IsSquare}
-use Rattle.bf_world.specs.Runs.{Run, place, round_of, begun, first_places, run_happened}
+use Rattle.bf_world.specs.Runs.{Run, place, begun, first_places, run_happened}
 use Rattle.bf_world.proofs.PlaceLemmas.{IsPlaced}
 use Rattle.bf_world.proofs.QueueLemmas.{channel_below, messages_here, messages_elsewhere, messages_of_none}
 use Rattle.bf_world.proofs.MessageLemmas.{sent_at_first, received_at_first, received_after_send, sent_after_send, sent_after_send_elsewhere, sent_after_receive, received_after_receive, received_after_receive_elsewhere, front, behind}

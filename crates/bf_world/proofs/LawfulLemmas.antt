@@ -3,7 +3,7 @@ use Rattle.std.proofs.Common.{◌≡◌, ◌≢◌, ℕ, ◌+◌, ◌<◌, ◌�
 use Rattle.std.specs.Prelude.{◌==◌, Option, Some, None, is_some, if◌then◌else◌}
 use Rattle.std.specs.List.{range_with_len}
 use Rattle.std.proofs.Math.ListN.{get_or}
-use Rattle.std.proofs.lemmas.Bool.{cases_eq, cases_lt, eqb-true, eq-eqb}
+use Rattle.std.proofs.lemmas.Bool.{cases_eq, cases_lt, eqb-true, eq-eqb, and_parts}
 use Rattle.std.proofs.lemmas.List.{get_or-set_same, get_or-set_other, length-set}
 use Rattle.bf_program.specs.declared.epoch.Epoch.{Epoch}
 use Rattle.bf_program.specs.Meanings.{Meanings}
@@ -25,6 +25,8 @@ use Rattle.bf_core.specs.declared.decision.Decision.TheVariants.{Lose, WantMemor
 use Rattle.bf_core.specs.Next.{with_stage, may_decide, happened, is_ripe, decision, decided, settled, next}
 use Rattle.std.proofs.lemmas.List.FromFn.{length-map-range_with_len, get_or-map-range_with_len}
 use Rattle.std.proofs.lemmas.List.{get_or_past}
+use Rattle.bf_core.proofs.LegalLemmas.{just_some}
+use Rattle.bf_buddy.proofs.MemberLemmas.{filter_members}
 use Rattle.bf_buddy.specs.Members.{is_member}
 use Rattle.bf_buddy.specs.Losses.{first_lost_of}
 use Rattle.bf_program.specs.Epochs.{target_of, epoch_after_commit}
@@ -39,24 +41,15 @@ use Rattle.bf_core.specs.States.{first_lost}
 use Rattle.bf_core.specs.declared.outcome.Outcome.TheVariants as outcomes
 use Rattle.bf_core.proofs.StageLemmas.{is_rank, stage_dissolved}
 use Rattle.bf_core.proofs.ArrivalLemmas.{IsFair, next_fair, opening_fair}
-use Rattle.bf_core.proofs.LawLemmas.{IsSameEpoch, same_epoch, running_where_ripe, commit_needs_members, restore_when_whole, second_of_two}
-use Rattle.bf_world.proofs.MemberLemmas.{Apart, apart_range, keys_filtered, filter_on, test_of}
-use Rattle.bf_core.proofs.SoundLemmas.{IsSound, IsMoved, moved_stage, first_of_two, acting, in_list, leaving_stage, next_sound, opening_sound, opening_unarrived}
+use Rattle.bf_core.proofs.LawLemmas.{IsSameEpoch, same_epoch, running_where_ripe, commit_needs_members, restore_when_whole}
+use Rattle.bf_world.proofs.MemberLemmas.{Apart, apart_range, keys_filtered, test_of}
+use Rattle.bf_core.proofs.SoundLemmas.{IsSound, IsMoved, moved_stage, acting, in_list, leaving_stage, next_sound, opening_sound, opening_unarrived}
 use Rattle.bf_world.specs.Course.{first_place, after_send, after_receive}
 use Rattle.bf_world.specs.Runs.{Run, place, begun, first_places, last_locals, will_be_filled, run_happened, run_decided, run_settled, next_run, is_legal_in, opening_run, run_from, is_legal_from, run_after, is_journal}
 use Rattle.bf_world.proofs.PlaceLemmas.{IsPlaced, placed_send, placed_receive, placed_from}
 
--- the number that there may be
-pub just : (o : Option ℕ) (n : ℕ) → is_just o n ≡ true → o ≡ Some n
-just (Some k) n same = ap Some (eqb-true k n same)
-just None n none = absurd (cc)
-
-abbrev filled_in : Stage → Bool
-filled_in (Arrived how filled) = filled
-filled_in _ = false
-
 arrived_filled : {a b : Bool} → Arrived Done a ≡ Arrived Done b → a ≡ b
-arrived_filled same = ap filled_in same
+arrived_filled same = ap is_filled same
 
 module _ {S L M T R : Type 0} (m : Meanings S L M T R) (good : S → Epoch → ℕ → List L → Type 0) (setup : S) where
   -- who has arrived done is past the last round, and its part of the new snapshot is filled as its last local says
@@ -110,10 +103,10 @@ module _ {S L M T R : Type 0} (m : Meanings S L M T R) (good : S → Epoch → �
       → IsSteady (run_happened m setup run (Send rank to blocks sum))
   unfolding will_be_filled last_locals
   sent_steady run rank to blocks sum steady sound legal =
-      let runs : stage run.core rank ≡ Running = acting run.core rank (first_of_two (is_active run.core rank) _ legal) in
+      let runs : stage run.core rank ≡ Running = acting run.core rank (and_parts (is_active run.core rank) _ legal).0 in
       let within : rank < length run.core.standings = in_list run.core rank runs in
       let moved : IsMoved run.core (with_stage run.core rank (stage run.core rank)) rank (stage run.core rank) = moved_stage run.core rank (stage run.core rank) within in
-      let sends : next_send (place run rank) ≡ Some to = just _ to (second_of_two (is_active run.core rank) _ legal) in
+      let sends : next_send (place run rank) ≡ Some to = just_some _ to (and_parts (is_active run.core rank) _ legal).1 in
       record {
         ranks = steady.ranks;
         shift = steady.shift;
@@ -138,11 +131,11 @@ module _ {S L M T R : Type 0} (m : Meanings S L M T R) (good : S → Epoch → �
   unfolding will_be_filled last_locals
   received_steady run rank peer steady sound legal =
       let active : is_active run.core rank && is_just (next_receive (place run rank)) peer ≡ true =
-      first_of_two (is_active run.core rank && is_just (next_receive (place run rank)) peer) _ legal in
-      let runs : stage run.core rank ≡ Running = acting run.core rank (first_of_two (is_active run.core rank) _ active) in
+      (and_parts (is_active run.core rank && is_just (next_receive (place run rank)) peer) _ legal).0 in
+      let runs : stage run.core rank ≡ Running = acting run.core rank (and_parts (is_active run.core rank) _ active).0 in
       let within : rank < length run.core.standings = in_list run.core rank runs in
       let moved : IsMoved run.core (with_stage run.core rank (stage run.core rank)) rank (stage run.core rank) = moved_stage run.core rank (stage run.core rank) within in
-      let receives : next_receive (place run rank) ≡ Some peer = just _ peer (second_of_two (is_active run.core rank) _ active) in
+      let receives : next_receive (place run rank) ≡ Some peer = just_some _ peer (and_parts (is_active run.core rank) _ active).1 in
       record {
         ranks = steady.ranks;
         shift = steady.shift;
@@ -191,18 +184,18 @@ module _ {S L M T R : Type 0} (m : Meanings S L M T R) (good : S → Epoch → �
   happened_steady run (Send rank to blocks sum) steady sound legal = sent_steady run rank to blocks sum steady sound legal
   happened_steady run (Recv rank peer) steady sound legal = received_steady run rank peer steady sound legal
   happened_steady run (Arrive rank Done) steady sound legal =
-      let runs : stage run.core rank ≡ Running = acting run.core rank (first_of_two (is_active run.core rank) _ legal) in
+      let runs : stage run.core rank ≡ Running = acting run.core rank (and_parts (is_active run.core rank) _ legal).0 in
       staged_steady run (Arrive rank Done) rank (Arrived Done (will_be_filled m setup run rank)) steady (in_list run.core rank runs) refl
-      (λ filled same. (past_place (place run rank) (second_of_two (is_active run.core rank) _ legal), sym (arrived_filled same))) _
+      (λ filled same. (past_place (place run rank) (and_parts (is_active run.core rank) _ legal).1, sym (arrived_filled same))) _
   happened_steady run (Arrive rank Broken) steady sound legal =
       let runs : stage run.core rank ≡ Running =
-      acting run.core rank (first_of_two (is_active run.core rank) _ (first_of_two (is_active run.core rank && waits run.core rank (place run rank)) _ legal)) in
+      acting run.core rank (and_parts (is_active run.core rank) _ (and_parts (is_active run.core rank && waits run.core rank (place run rank)) _ legal).0).0 in
       staged_steady run (Arrive rank Broken) rank (Arrived Broken false) steady (in_list run.core rank runs) refl (λ filled same. absurd (cc)) _
   happened_steady run (Arrive rank Memory) steady sound legal =
       let runs : stage run.core rank ≡ Running = acting run.core rank legal in
       staged_steady run (Arrive rank Memory) rank (Arrived Memory false) steady (in_list run.core rank runs) refl (λ filled same. absurd (cc)) _
   happened_steady run (Leave rank) steady sound legal =
-      let leaving : stage run.core rank ≡ Leaving = leaving_stage run.core rank (first_of_two (is_leaving (stage run.core rank)) _ legal) in
+      let leaving : stage run.core rank ≡ Leaving = leaving_stage run.core rank (and_parts (is_leaving (stage run.core rank)) _ legal).0 in
       staged_steady run (Leave rank) rank (if is_some run.core.outcome then Ended else Running) steady
       (is_rank is_leaving run.core rank refl (ap is_leaving leaving)) refl (λ filled same. absurd (by_end (is_some run.core.outcome) filled same)) _
     where
@@ -210,7 +203,7 @@ module _ {S L M T R : Type 0} (m : Meanings S L M T R) (good : S → Epoch → �
       by_end true filled same = absurd (cc)
       by_end false filled same = absurd (cc)
   happened_steady run (Die rank) steady sound legal =
-      staged_steady run (Die rank) rank Dead steady (is_rank goes_on run.core rank refl (first_of_two (goes_on (stage run.core rank)) _ legal)) refl (λ filled same. absurd (cc)) _
+      staged_steady run (Die rank) rank Dead steady (is_rank goes_on run.core rank refl (and_parts (goes_on (stage run.core rank)) _ legal).0) refl (λ filled same. absurd (cc)) _
 
   -- after a decision nobody has arrived
   none_arrived : (s : Stage) (filled : Bool) → after_decision s ≡ Arrived Done filled → ⊥
@@ -310,7 +303,7 @@ module _ {S L M T R : Type 0} (m : Meanings S L M T R) (good : S → Epoch → �
       → filled_members run.core ≡ program.filled_members m run.core.epoch.members (last_locals m setup run)
   unfolding filled_members program.filled_members last_locals will_be_filled
   flags_agree run steady apart all_done =
-      filter_on (λ rank. is_filled (stage run.core rank)) (λ rank. test_of m.filled (local_of run.core.epoch.members (last_locals m setup run) rank)) run.core.epoch.members
+      filter_members (λ rank. is_filled (stage run.core rank)) (λ rank. test_of m.filled (local_of run.core.epoch.members (last_locals m setup run) rank)) run.core.epoch.members
       (λ rank member. flag_of rank (finished_arrival (stage run.core rank) (all_done rank member)))
       ∙ keys_filtered m.filled run.core.epoch.members (last_locals m setup run) apart
       (goods.one_each run.core.epoch (m.rounds setup run.core.epoch) (last_locals m setup run) (last_good run steady))
@@ -418,7 +411,7 @@ module _ {S L M T R : Type 0} (m : Meanings S L M T R) (good : S → Epoch → �
   }
     where
       core_legal : is_legal run.core event (place run (actor event)) ≡ true
-      core_legal = first_of_two (is_legal run.core event (place run (actor event))) _ legal
+      core_legal = (and_parts (is_legal run.core event (place run (actor event))) _ legal).0
 
       before : IsSteady m good setup (run_happened m setup run event)
       before = happened_steady m good setup run event lawful.steady lawful.sound core_legal
@@ -463,8 +456,8 @@ module _ {S L M T R : Type 0} (m : Meanings S L M T R) (good : S → Epoch → �
   pub from_lawful : (run : Run L T) (journal : List Event) → IsLawful run → is_legal_from m setup run journal ≡ true → IsLawful (run_from m setup run journal)
   from_lawful run [] lawful legal = lawful
   from_lawful run (event ∷ events) lawful legal =
-      from_lawful (next_run m setup run event) events (next_lawful run event lawful (first_of_two (is_legal_in m setup run event) _ legal))
-      (second_of_two (is_legal_in m setup run event) _ legal)
+      from_lawful (next_run m setup run event) events (next_lawful run event lawful (and_parts (is_legal_in m setup run event) _ legal).0)
+      (and_parts (is_legal_in m setup run event) _ legal).1
 
   pub after_lawful : KeepsLimits m setup → (journal : List Event) → is_journal m setup journal ≡ true → IsLawful (run_after m setup journal)
   unfolding run_after is_journal

@@ -3,7 +3,8 @@ use Rattle.std.proofs.Common.{◌≡◌, ℕ, zero, suc, ◌+◌, ◌≤◌, Boo
 use Rattle.std.specs.Prelude.{◌==◌, Option, Some, None}
 use Rattle.std.specs.List.{range_with_len, zip}
 use Rattle.std.specs.Map.{keys_of}
-use Rattle.std.proofs.lemmas.Bool.{eqb-true, eq-eqb}
+use Rattle.std.proofs.lemmas.Bool.{eqb-true, eq-eqb, or_right, or_left}
+use Rattle.bf_buddy.proofs.MemberLemmas.{filter_members}
 use Rattle.bf_buddy.specs.Members.{is_member}
 use Rattle.bf_program.specs.Lockstep.{local_of}
 
@@ -47,24 +48,6 @@ apart_range p k (suc n) = by_first (p k) (apart_range p (k + 1) n)
     by_first true rest = (not_above p k n, rest)
     by_first false rest = rest
 
--- two tests that agree on all members keep the same
-pub filter_on : (p q : ℕ → Bool) (xs : List ℕ) → ((y : ℕ) → is_member xs y ≡ true → p y ≡ q y) → filter p xs ≡ filter q xs
-filter_on p q [] same = refl
-filter_on p q (x ∷ xs) same =
-    rw (same x (first_in (x == x) (is_member xs x) (eq-eqb x x refl)), filter_on p q xs (λ y later. same y (rest_in (x == y) (is_member xs y) later))) refl
-  where
-    first_in : (a b : Bool) → a ≡ true → (a || b) ≡ true
-    first_in true b holds = refl
-    first_in false b holds = absurd (cc)
-
-    rest_in : (a b : Bool) → b ≡ true → (a || b) ≡ true
-    rest_in true b holds = refl
-    rest_in false b holds = holds
-
-abbrev pub test_of : {L : Type 0} → (L → Bool) → Option L → Bool
-test_of test (Some local) = test local
-test_of test None = false
-
 -- the members whose local passes a test, told by looking each up
 pub keys_filtered : {L : Type 0} (test : L → Bool) (members : List ℕ) (locals : List L) → Apart members → length locals ≡ length members
     → filter (λ rank. test_of test (local_of members locals rank)) members ≡ keys_of (filter (λ seat. test seat.1) (zip members locals))
@@ -72,7 +55,7 @@ keys_filtered test [] locals apart each = refl
 keys_filtered test (x ∷ xs) [] apart each = absurd (omega arith)
 keys_filtered {L = L} test (x ∷ xs) (l ∷ ls) apart each =
     let rest : filter (λ rank. test_of test (local_of (x ∷ xs) (l ∷ ls) rank)) xs ≡ keys_of (filter (λ seat. test seat.1) (zip xs ls)) =
-    filter_on _ (λ rank. test_of test (local_of xs ls rank)) xs (λ y member. ap (test_of test) (looks_on y (x == y) refl member)) ∙ keys_filtered test xs ls apart.1 (omega arith) in
+    filter_members _ (λ rank. test_of test (local_of xs ls rank)) xs (λ y member. ap (test_of test) (looks_on y (x == y) refl member)) ∙ keys_filtered test xs ls apart.1 (omega arith) in
     by_first (test l) refl rest (eq-eqb x x refl)
   where
     looks_on : (y : ℕ) (b : Bool) → (x == y) ≡ b → is_member xs y ≡ true → cond b (Some l) (local_of xs ls y) ≡ local_of xs ls y

@@ -11,11 +11,10 @@ use Rattle.bf_program.specs.Lockstep.{message}
 use Rattle.bf_program.specs.Laws.{KeepsGood, KeepsPeers}
 use Rattle.bf_core.specs.declared.place.Place.{Place}
 use Rattle.bf_core.specs.declared.place.Place.TheVariants.{Rounds, Past}
-use Rattle.bf_core.specs.Places.{next_send, next_receive, is_past}
+use Rattle.bf_core.specs.Places.{next_send, next_receive, is_past, round_of}
 use Rattle.bf_core.specs.Orders.{IsBehind}
 use Rattle.bf_world.specs.Course.{local_at, peers_at, message_at, place_with, place_from, first_place, after_send, after_receive}
 use Rattle.bf_world.specs.Messages.{listed, sent_in, sent_before, sent_to, received_in, received_before, received_from}
-use Rattle.bf_world.specs.Runs.{round_of}
 use Rattle.bf_world.proofs.PlaceLemmas.{IsPlaced, IsInRound, receives_at}
 use Rattle.bf_world.proofs.PeerLemmas.{member_at, not_before, among_with, others_stay, among_all, with_peer, peers_apart, peers_mutual}
 

@@ -3,6 +3,7 @@ use Rattle.std.proofs.Common.{◌≡◌, ℕ, ◌+◌, ◌*◌, ◌<◌, ◌≤�
 use Rattle.std.specs.Prelude.{◌==◌, sum_by, Option, Some, None, is_some, if◌then◌else◌}
 use Rattle.std.specs.List.{list_any}
 use Rattle.std.proofs.lemmas.List.Sums.{sum_by-cons, sum_by-set}
+use Rattle.std.proofs.lemmas.Bool.{not-true, or_parts, and_parts}
 use Rattle.bf_buddy.specs.Losses.{first_lost_of}
 use Rattle.bf_core.specs.declared.decision.Decision.{Decision}
 use Rattle.bf_core.specs.declared.decision.Decision.TheVariants.{Lose, WantMemory, Commit, Restore}
@@ -17,7 +18,7 @@ use Rattle.bf_core.specs.Stages.{is_short, is_leaving, goes_on, after_decision}
 use Rattle.bf_core.specs.States.{State, stage, is_due, is_active, has_everyone_arrived, is_short_of_memory, live_members}
 use Rattle.bf_core.specs.Next.{with_stage, is_ripe, is_everyone_done, decision, decision_where, decided, settled, dissolved, ended, committed, restored, next}
 use Rattle.bf_core.proofs.StageLemmas.{nobody, is_rank}
-use Rattle.bf_core.proofs.SoundLemmas.{first_of_two, acting, in_list, leaving_stage}
+use Rattle.bf_core.proofs.SoundLemmas.{acting, in_list, leaving_stage}
 use Rattle.bf_world.specs.Worlds.{room_of, room_needed}
 
 -- whether a decision ends the run whatever the epoch
@@ -89,15 +90,11 @@ ended_each (s ∷ standings) = omega (
   ended_each standings,
 )
 
-either_false : (a b : Bool) → (a || b) ≡ false → (a ≡ false) × (b ≡ false)
-either_false true b none = absurd (cc)
-either_false false b none = (refl, none)
-
 on_each : (standings : List Standing) → list_any (λ s. is_short s.stage) standings ≡ false
     → sum_by (λ s. room_of false s.stage) (map after standings) ≤ sum_by (λ s. room_of false s.stage) standings
 on_each [] fits = omega arith
 on_each (s ∷ standings) fits =
-    let both : (is_short s.stage ≡ false) × (list_any (λ s. is_short s.stage) standings ≡ false) = either_false (is_short s.stage) _ fits in
+    let both : (is_short s.stage ≡ false) × (list_any (λ s. is_short s.stage) standings ≡ false) = or_parts (is_short s.stage) _ fits in
     omega (
       arith,
       sum_by-cons {X = Standing} (λ s. room_of false s.stage) (after s) (map after standings),
@@ -152,16 +149,12 @@ need_decided state Commit is on = by_end (state.epoch.target == state.steps)
     by_end false = need_committed state on (fits_where_on state Commit is refl)
 need_decided state Restore is on = need_restored state on (fits_where_on state Restore is refl)
 
-not_true : (b : Bool) → not b ≡ true → b ≡ false
-not_true true holds = absurd (cc)
-not_true false holds = refl
-
 need_settled : (state : State) → room_needed (settled state) ≤ room_needed state
 unfolding settled
 need_settled state = by_ripe (is_ripe state) refl
   where
     by_ripe : (b : Bool) → is_ripe state ≡ b → room_needed (if b then decided state (decision state) else state) ≤ room_needed state
-    by_ripe true ripe = need_decided state (decision state) refl (not_true (is_some state.outcome) (first_of_two (not (is_some state.outcome)) (has_everyone_arrived state) ripe))
+    by_ripe true ripe = need_decided state (decision state) refl (not-true (is_some state.outcome) (and_parts (not (is_some state.outcome)) (has_everyone_arrived state) ripe).0)
     by_ripe false unripe = omega arith
 
 -- an arrival for want of memory leaves room for less
@@ -196,5 +189,5 @@ some_left b Gone gone = absurd (cc)
 -- and a death
 pub need_died : (state : State) (rank : ℕ) (filled : Bool) → is_due state rank ≡ true → room_needed (next state (Die rank) filled) + 1 ≤ room_needed state
 need_died state rank filled due =
-    let goes : goes_on (stage state rank) ≡ true = first_of_two (goes_on (stage state rank)) _ due in
+    let goes : goes_on (stage state rank) ≡ true = (and_parts (goes_on (stage state rank)) _ due).0 in
     omega (arith, some_left (is_some state.outcome) (stage state rank) goes, need_moved state rank Dead (is_rank goes_on state rank refl goes), need_settled (with_stage state rank Dead))

@@ -2,28 +2,18 @@
 use Rattle.std.proofs.Common.{◌≡◌, ℕ, Bool, true, false, cond, ◌||◌, not, List, [], ◌∷◌, ◌++◌, append_assoc, map, length, arith, refl, sym, subst, ◌∙◌, ap}
 use Rattle.std.specs.Prelude.{◌==◌, IsPermutation, Option, Some}
 use Rattle.std.specs.List.{flat_map, zip}
-use Rattle.std.proofs.lemmas.Bool.{eqb-true, eq-eqb}
+use Rattle.std.proofs.lemmas.Bool.{eqb-true, eq-eqb, or_right, or_left}
 use Rattle.std.proofs.lemmas.List.Sorted.{IsPermutation-refl, IsPermutation-trans, IsPermutation-append_left, IsPermutation-append_right, IsPermutation-append_comm}
+use Rattle.std.proofs.Math.Bool.{or-false, or_assoc}
+use Rattle.bf_buddy.proofs.LawLemmas.{without_stranger}
 use Rattle.bf_buddy.specs.Members.{is_member, without}
 use Rattle.bf_program.specs.Lockstep.{local_of}
 use Rattle.bf_world.proofs.MemberLemmas.{Apart}
 
-or_same : (a b c : Bool) → b ≡ c → (a || b) ≡ (a || c)
-or_same true b c same = refl
-or_same false b c same = same
-
-or_assoc : (a b c : Bool) → (a || (b || c)) ≡ ((a || b) || c)
-or_assoc true b c = refl
-or_assoc false b c = refl
-
 -- one number more
 pub member_more : (xs : List ℕ) (x y : ℕ) → is_member (xs ++ x ∷ []) y ≡ (is_member xs y || (x == y))
-member_more [] x y = by_last (x == y)
-  where
-    by_last : (b : Bool) → (b || false) ≡ b
-    by_last true = refl
-    by_last false = refl
-member_more (z ∷ zs) x y = or_same (z == y) _ _ (member_more zs x y) ∙ or_assoc (z == y) (is_member zs y) (x == y)
+member_more [] x y = or-false (x == y)
+member_more (z ∷ zs) x y = ap (λ b. (z == y) || b) (member_more zs x y) ∙ sym (or_assoc (z == y) (is_member zs y) (x == y))
 
 pub apart_more : (xs : List ℕ) (x : ℕ) → Apart xs → is_member xs x ≡ false → Apart (xs ++ x ∷ [])
 apart_more [] x apart out = (refl, tt)
@@ -81,22 +71,9 @@ apart_without (z ∷ zs) x apart = by_head (z == x) (apart_without zs x apart.1)
     by_head true rest = rest
     by_head false rest = (member_without zs x z ∙ gone (x == z) (is_member zs z) apart.0, rest)
 
-pub without_none : (xs : List ℕ) (x : ℕ) → is_member xs x ≡ false → without xs x ≡ xs
-without_none [] x none = refl
-without_none (z ∷ zs) x none = by_head (z == x) none (λ later. without_none zs x later)
-  where
-    by_head : (b : Bool) → (b || is_member zs x) ≡ false → (is_member zs x ≡ false → without zs x ≡ zs) → cond (not b) (z ∷ without zs x) (without zs x) ≡ z ∷ zs
-    by_head true same rest = absurd (cc)
-    by_head false other rest = ap (λ ys. z ∷ ys) (rest other)
-
 pub none_listed : (xs : List ℕ) → ((y : ℕ) → is_member xs y ≡ false) → xs ≡ []
 none_listed [] none = refl
-none_listed (z ∷ zs) none = absurd (let e : true ≡ false = sym (first_in (z == z) (is_member zs z) (eq-eqb z z refl)) ∙ none z in cc)
-  where
-    first_in : (a b : Bool) → a ≡ true → (a || b) ≡ true
-    first_in true b holds = refl
-    first_in false b holds = absurd (cc)
-
+none_listed (z ∷ zs) none = absurd (let e : true ≡ false = sym (or_left (z == z) (is_member zs z) (eq-eqb z z refl)) ∙ none z in cc)
 -- what each number gives, in another order
 
 to_front : {X : Type 0} (a b c : List X) → IsPermutation (a ++ (b ++ c)) (b ++ (a ++ c))
@@ -115,7 +92,7 @@ pulled {X = X} f (y ∷ ys) x apart member = by_head (y == x) refl member (λ la
     by_head true same _ rest =
         let is : y ≡ x = eqb-true y x same in
         let P : List X → Type 0 = λ xs. IsPermutation xs (f y ++ flat_map f ys) in
-        subst P (ap (λ r. f r ++ flat_map f ys) is ∙ ap (λ zs. f x ++ flat_map f zs) (sym (without_none ys x (ap (is_member ys) (sym is) ∙ apart.0)))) (IsPermutation-refl (f y ++ flat_map f ys))
+        subst P (ap (λ r. f r ++ flat_map f ys) is ∙ ap (λ zs. f x ++ flat_map f zs) (sym (without_stranger ys x (ap (is_member ys) (sym is) ∙ apart.0)))) (IsPermutation-refl (f y ++ flat_map f ys))
     by_head false other later rest =
         IsPermutation-trans (f x ++ (f y ++ flat_map f (without ys x))) (f y ++ (f x ++ flat_map f (without ys x))) (f y ++ flat_map f ys)
         (to_front (f x) (f y) (flat_map f (without ys x)))
@@ -130,12 +107,8 @@ same_gifts {X = X} f [] ys apart others same =
 same_gifts f (x ∷ xs) ys apart others same =
     IsPermutation-trans (f x ++ flat_map f xs) (f x ++ flat_map f (without ys x)) (flat_map f ys)
     (IsPermutation-append_right (f x) (flat_map f xs) (flat_map f (without ys x)) (same_gifts f xs (without ys x) apart.1 (apart_without ys x others) rest))
-    (pulled f ys x others (sym (same x) ∙ first_in (x == x) (is_member xs x) (eq-eqb x x refl)))
+    (pulled f ys x others (sym (same x) ∙ or_left (x == x) (is_member xs x) (eq-eqb x x refl)))
   where
-    first_in : (a b : Bool) → a ≡ true → (a || b) ≡ true
-    first_in true b holds = refl
-    first_in false b holds = absurd (cc)
-
     by_test : (y : ℕ) (b : Bool) → (x == y) ≡ b → (b || is_member xs y) ≡ is_member ys y → is_member xs y ≡ cond b false (is_member ys y)
     by_test y true is all = ap (is_member xs) (sym (eqb-true x y is)) ∙ apart.0
     by_test y false differs all = all
@@ -148,16 +121,7 @@ same_gifts f (x ∷ xs) ys apart others same =
 same_on : {X : Type 0} (f g : ℕ → List X) (xs : List ℕ) → ((y : ℕ) → is_member xs y ≡ true → f y ≡ g y) → flat_map f xs ≡ flat_map g xs
 same_on f g [] same = refl
 same_on f g (x ∷ xs) same =
-    rw (same x (first_in (x == x) (is_member xs x) (eq-eqb x x refl)), same_on f g xs (λ y later. same y (rest_in (x == y) (is_member xs y) later))) refl
-  where
-    first_in : (a b : Bool) → a ≡ true → (a || b) ≡ true
-    first_in true b holds = refl
-    first_in false b holds = absurd (cc)
-
-    rest_in : (a b : Bool) → b ≡ true → (a || b) ≡ true
-    rest_in true b holds = refl
-    rest_in false b holds = holds
-
+    rw (same x (or_left (x == x) (is_member xs x) (eq-eqb x x refl)), same_on f g xs (λ y later. same y (or_right (x == y) (is_member xs y) later))) refl
 pub gifts_of_seats : {L T : Type 0} (g : ℕ × L → T) (h : ℕ → Option L → List T) → ((rank : ℕ) (local : L) → h rank (Some local) ≡ g (rank, local) ∷ [])
     → (members : List ℕ) (locals : List L) → Apart members → length locals ≡ length members
     → flat_map (λ rank. h rank (local_of members locals rank)) members ≡ map g (zip members locals)

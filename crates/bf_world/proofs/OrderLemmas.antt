@@ -2,6 +2,8 @@
 use Rattle.std.proofs.Common.{◌≡◌, ◌≢◌, ℕ, ◌<◌, Bool, true, false, not, List, refl, sym, subst, ◌∙◌, ap}
 use Rattle.std.specs.Prelude.{Option, Some, None}
 use Rattle.std.specs.List.{range_with_len}
+use Rattle.std.proofs.lemmas.Bool.{not-true}
+use Rattle.bf_core.specs.Places.{round_of}
 use Rattle.bf_buddy.specs.Members.{is_member}
 use Rattle.bf_program.specs.declared.epoch.Epoch.{Epoch}
 use Rattle.bf_program.specs.Meanings.{Meanings}
@@ -23,7 +25,7 @@ use Rattle.bf_core.proofs.MoveLemmas.{somebody_moves}
 use Rattle.bf_world.specs.Course.{peers_at}
 use Rattle.bf_world.specs.Messages.{AreQueuesOf}
 use Rattle.bf_world.specs.Queues.{Waiting}
-use Rattle.bf_world.specs.Runs.{Run, place, round_of}
+use Rattle.bf_world.specs.Runs.{Run, place}
 use Rattle.bf_world.proofs.LawfulLemmas.{IsLawful}
 use Rattle.bf_world.proofs.PeerLemmas.{peer_is_other}
 use Rattle.bf_world.proofs.MessageLemmas.{has_next, receives_from_peer}
@@ -49,13 +51,8 @@ module _ {S L M T R : Type 0} (m : Meanings S L M T R) (good : S → Epoch → �
       none = goes_on_where run rank lawful.sound runs
 
       here : is_gone (stage run.core peer) ≡ false
-      here = unnot (is_gone (stage run.core peer)) (passes (λ r. not (is_gone (stage run.core r))) (range_with_len 0 run.core.ranks) peer
+      here = not-true (is_gone (stage run.core peer)) (passes (λ r. not (is_gone (stage run.core r))) (range_with_len 0 run.core.ranks) peer
           (ap (λ members. is_member members peer) (sym (lawful.sound.members none)) ∙ member))
-        where
-          unnot : (b : Bool) → not b ≡ true → b ≡ false
-          unnot true still = absurd (cc)
-          unnot false _ = refl
-
       not_past : place run peer ≡ Past → ⊥
       not_past past = subst (λ p. IsBehind p (place run rank)) past is_behind
 

@@ -4,9 +4,11 @@ use Rattle.std.specs.Prelude.{◌==◌, Option, Some, None, is_some, if◌then�
 use Rattle.std.specs.List.{range_with_len, flat_map, list_any}
 use Rattle.std.specs.Map.{lookup}
 use Rattle.std.proofs.Math.ListN.{get_or-map}
-use Rattle.std.proofs.lemmas.Bool.{cases_eq, cases_lt, eqb-true}
+use Rattle.std.proofs.lemmas.Bool.{cases_eq, cases_lt, eqb-true, or_left, or_right, and_parts}
 use Rattle.std.proofs.lemmas.List.{get_or-set_same, get_or-set_other, get_or_past, length-set, length-map}
 use Rattle.std.proofs.lemmas.List.FromFn.{length-map-range_with_len, get_or-map-range_with_len}
+use Rattle.std.proofs.lemmas.Option.{same_Some}
+use Rattle.bf_buddy.proofs.MemberLemmas.{member_filter_from}
 use Rattle.bf_buddy.specs.Members.{is_member}
 use Rattle.bf_program.specs.declared.epoch.Epoch.{Epoch}
 use Rattle.bf_program.specs.Meanings.{Meanings}
@@ -29,9 +31,9 @@ use Rattle.bf_core.specs.States.{State, standing, stage, is_active, live_members
 use Rattle.bf_core.specs.Legal.{actor, is_legal, waits}
 use Rattle.bf_core.specs.Next.{with_stage, may_decide, happened, is_ripe, decision, decided, dissolved, ended, committed, settled, next}
 use Rattle.bf_core.proofs.StageLemmas.{nobody, Someone, someone, is_rank, stage_same, stage_other, stage_dissolved}
-use Rattle.bf_core.proofs.SoundLemmas.{IsSound, first_of_two, acting, active_of, in_list, leaving_stage}
+use Rattle.bf_core.proofs.SoundLemmas.{IsSound, acting, active_of, in_list, leaving_stage}
 use Rattle.bf_core.proofs.ArrivalLemmas.{IsFair, happened_size, happened_fair}
-use Rattle.bf_core.proofs.LawLemmas.{Losses, same_epoch, running_where_ripe, second_of_two, decision_lost, next_settles, next_happens, ripe_decides, unripe_waits}
+use Rattle.bf_core.proofs.LawLemmas.{Losses, same_epoch, running_where_ripe, decision_lost, next_settles, next_happens, ripe_decides, unripe_waits}
 use Rattle.bf_world.specs.Ends.{NobodyDies, tells_of_death}
 use Rattle.bf_world.specs.Runs.{Run, place, will_be_filled, opening_run, next_run, is_legal_in, run_from, is_legal_from, is_journal}
 use Rattle.bf_world.specs.Worlds.{is_restore, brings_decision, brings_restore, restores_from, restores_in}
@@ -87,17 +89,17 @@ due_none false events death fated due = absurd (cc)
 
 happened_peaceful : (state : State) (event : Event) (place : Place) (filled : Bool) → is_legal state event place ≡ true → IsPeaceful state → IsPeaceful (happened state event filled)
 happened_peaceful state (Send rank to blocks sum) place filled legal peaceful =
-    let runs : stage state rank ≡ Running = acting state rank (first_of_two (is_active state rank) _ legal) in
+    let runs : stage state rank ≡ Running = acting state rank (and_parts (is_active state rank) _ legal).0 in
     let kept : IsPeaceful (with_stage state rank (stage state rank)) = staged_peaceful state rank (stage state rank) (in_list state rank runs) (ap lives runs) peaceful in
     record { fated = kept.fated; alive = kept.alive; homes = kept.homes; unlost = kept.unlost }
 happened_peaceful state (Recv rank peer) place filled legal peaceful =
-    let runs : stage state rank ≡ Running = acting state rank (first_of_two (is_active state rank) _ (first_of_two (is_active state rank && is_just (next_receive place) peer) _ legal)) in
+    let runs : stage state rank ≡ Running = acting state rank (and_parts (is_active state rank) _ (and_parts (is_active state rank && is_just (next_receive place) peer) _ legal).0).0 in
     let kept : IsPeaceful (with_stage state rank (stage state rank)) = staged_peaceful state rank (stage state rank) (in_list state rank runs) (ap lives runs) peaceful in
     record { fated = kept.fated; alive = kept.alive; homes = kept.homes; unlost = kept.unlost }
 happened_peaceful state (Arrive rank how) place filled legal peaceful =
     staged_peaceful state rank (Arrived how (is_done how && filled)) (in_list state rank (acting state rank (active_of state rank how place legal))) refl peaceful
 happened_peaceful state (Leave rank) place filled legal peaceful =
-    let leaving : stage state rank ≡ Leaving = leaving_stage state rank (first_of_two (is_leaving (stage state rank)) _ legal) in
+    let leaving : stage state rank ≡ Leaving = leaving_stage state rank (and_parts (is_leaving (stage state rank)) _ legal).0 in
     staged_peaceful state rank (if is_some state.outcome then Ended else Running) (is_rank is_leaving state rank refl (ap is_leaving leaving)) (by_end (is_some state.outcome)) peaceful
   where
     by_end : (b : Bool) → lives (if b then Ended else Running) ≡ true
@@ -122,12 +124,8 @@ ended_peaceful state outcome kept peaceful = record {
   fated = dissolved_fated state peaceful;
   alive = dissolved_alive state peaceful;
   homes = peaceful.homes;
-  unlost = λ time home buddy ends. kept time home buddy (the ends);
+  unlost = λ time home buddy ends. kept time home buddy (same_Some _ _ ends);
 }
-  where
-    the : {a b : Outcome} → Some a ≡ Some b → a ≡ b
-    the {a = a} same = ap (λ o. elim o [ Some v ↦ v | None ↦ a ]) same
-
 decided_peaceful : (state : State) (made : Decision) → (made ≡ Restore → ⊥) → ((home buddy : ℕ) → made ≡ Lose home buddy → ⊥) → IsPeaceful state → IsPeaceful (decided state made)
 unfolding decided dissolved
 decided_peaceful state (Lose home buddy) stays keeps peaceful = absurd (keeps home buddy refl)
@@ -139,22 +137,6 @@ decided_peaceful state Commit stays keeps peaceful = at_end (state.epoch.target 
     at_end false = record { fated = dissolved_fated state peaceful; alive = dissolved_alive state peaceful; homes = refl; unlost = peaceful.unlost }
 decided_peaceful state Restore stays keeps peaceful = absurd (stays refl)
 
--- who is listed and passes stays listed
-kept_member : (test : ℕ → Bool) (xs : List ℕ) (x : ℕ) → is_member xs x ≡ true → test x ≡ true → is_member (filter test xs) x ≡ true
-kept_member test [] x member passes = absurd (cc)
-kept_member test (y ∷ ys) x member passes = by_test (test y) refl (y == x) refl member (λ later. kept_member test ys x later passes)
-  where
-    or_later : (a b : Bool) → b ≡ true → (a || b) ≡ true
-    or_later true b holds = refl
-    or_later false b holds = holds
-
-    by_test : (t : Bool) → test y ≡ t → (b : Bool) → (y == x) ≡ b → (b || is_member ys x) ≡ true → (is_member ys x ≡ true → is_member (filter test ys) x ≡ true)
-        → is_member (cond t (y ∷ filter test ys) (filter test ys)) x ≡ true
-    by_test true kept true same _ rest = rw same refl
-    by_test true kept false other later rest = or_later (y == x) _ (rest later)
-    by_test false fails true same _ rest = absurd (let e : true ≡ false = sym passes ∙ ap test (sym (eqb-true y x same)) ∙ fails in cc)
-    by_test false fails false other later rest = rest later
-
 -- no part is lost where every home is a member that lives
 nothing_lost : Losses → (state : State) → IsPeaceful state → ((rank : ℕ) → is_member state.epoch.members rank ≡ true → rank < length state.standings)
     → first_lost state ≡ None
@@ -163,12 +145,7 @@ nothing_lost losses state peaceful listed =
     (losses state.epoch.homes state.stored (filter (λ rank. lives (stage state rank)) state.epoch.members) state.shift).1
     (λ home is_home stored.
     let member : is_member state.epoch.members home ≡ true = ap (λ xs. is_member xs home) (sym peaceful.homes) ∙ is_home in
-    first_holds _ _ (kept_member (λ rank. lives (stage state rank)) state.epoch.members home member (peaceful.alive home (listed home member))))
-  where
-    first_holds : (a b : Bool) → a ≡ true → (a || b) ≡ true
-    first_holds true b holds = refl
-    first_holds false b holds = absurd (cc)
-
+    or_left _ _ (member_filter_from (λ rank. lives (stage state rank)) state.epoch.members home member (peaceful.alive home (listed home member))))
 -- what an event of a peaceful run leaves
 module _ (losses : Losses) (state : State) (event : Event) (place : Place) (filled : Bool) (sound : IsSound state) (fair : IsFair state)
     (legal : is_legal state event place ≡ true) (peaceful : IsPeaceful state) where
@@ -210,8 +187,8 @@ module _ (losses : Losses) (state : State) (event : Event) (place : Place) (fill
       by_how rank Done is = refl
       by_how rank Memory is = refl
       by_how rank Broken is =
-          absurd (nobody_dead state peaceful (someone is_dead state (second_of_two (is_active state rank && waits state rank place) _
-          (ap (λ e. is_legal state e place) (sym is) ∙ legal))))
+          absurd (nobody_dead state peaceful (someone is_dead state (and_parts (is_active state rank && waits state rank place) _
+          (ap (λ e. is_legal state e place) (sym is) ∙ legal)).1))
 
       by_event : (e : Event) → event ≡ e → tells_of_death event ≡ false
       by_event (Send rank to blocks sum) is = ap tells_of_death is
@@ -222,7 +199,7 @@ module _ (losses : Losses) (state : State) (event : Event) (place : Place) (fill
           (ap (λ e. is_legal state e place) (sym is) ∙ legal))
 
   not_restore : (may ripe : Bool) → (ripe ≡ true → is_ripe (happened state event filled) ≡ true) → is_restore (may && ripe) (decision (happened state event filled)) ≡ false
-  not_restore may ripe is = by_made (decision (happened state event filled)) refl (may && ripe) (λ both. is (second_of_two may ripe both))
+  not_restore may ripe is = by_made (decision (happened state event filled)) refl (may && ripe) (λ both. is (and_parts may ripe both).1)
     where
       by_made : (made : Decision) → decision (happened state event filled) ≡ made → (b : Bool) → (b ≡ true → is_ripe (happened state event filled) ≡ true) → is_restore b made ≡ false
       by_made (Lose home buddy) _ b _ = refl
@@ -260,11 +237,11 @@ module _ {S L M T R : Type 0} (m : Meanings S L M T R) (good : S → Epoch → �
   unfolding is_legal_in brings_restore brings_decision
   from_peaceful run [] lawful legal peaceful = record { peaceful = peaceful; quiet = refl; kept = λ before. refl }
   from_peaceful run (event ∷ events) lawful legal peaceful =
-      let first : is_legal_in m setup run event ≡ true = first_of_two (is_legal_in m setup run event) _ legal in
-      let core_legal : is_legal run.core event (place run (actor event)) ≡ true = first_of_two (is_legal run.core event (place run (actor event))) _ first in
+      let first : is_legal_in m setup run event ≡ true = (and_parts (is_legal_in m setup run event) _ legal).0 in
+      let core_legal : is_legal run.core event (place run (actor event)) ≡ true = (and_parts (is_legal run.core event (place run (actor event))) _ first).0 in
       let filled : Bool = will_be_filled m setup run (actor event) in
       let rest : StaysPeaceful (next_run m setup run event) events =
-      from_peaceful (next_run m setup run event) events (next_lawful m good setup goods stores run event lawful first) (second_of_two (is_legal_in m setup run event) _ legal)
+      from_peaceful (next_run m setup run event) events (next_lawful m good setup goods stores run event lawful first) (and_parts (is_legal_in m setup run event) _ legal).1
       (subst IsPeaceful (sym (core_next m good setup goods stores run event))
       (next_peaceful losses run.core event (place run (actor event)) filled lawful.sound lawful.fair core_legal peaceful)) in
       record {

@@ -4,6 +4,9 @@ use Rattle.std.specs.Prelude.{◌⊎◌, ◌==◌, Option, Some, None, slice_get
 use Rattle.std.specs.List.Sorted.{IsStrictlyIncreasing}
 use Rattle.std.proofs.lemmas.Bool.{eqb-true, eq-eqb, ne_eqb, false_from_ne_true, or_left, or_right, or_from}
 use Rattle.std.proofs.lemmas.Option.{same_Some}
+use Rattle.bf_lemmas.proofs.Tests.{same_tests}
+use Rattle.bf_program.proofs.RestoreLemmas.{has_local}
+use Rattle.bf_buddy.proofs.MemberLemmas.{all_member}
 use Rattle.bf_buddy.specs.Members.{is_member}
 use Rattle.bf_program.specs.declared.epoch.Epoch.{Epoch}
 use Rattle.bf_program.specs.Meanings.{Meanings}
@@ -79,32 +82,6 @@ among_all (suc count) (x ∷ xs) y member = by_first (λ later. among_all count 
     by_first rest true _ = refl
     by_first rest false later = rest later
 
--- what holds of all holds of each member
-pub holds_of : (P : ℕ → Type 0) (xs : List ℕ) (y : ℕ) → All P xs → is_member xs y ≡ true → P y
-holds_of P [] y all member = absurd (cc)
-holds_of P (x ∷ xs) y all member = by_first (λ later. holds_of P xs y (λ k d within. all (suc k) d (omega arith)) later) (x == y) refl member
-  where
-    by_first : (is_member xs y ≡ true → P y) → (b : Bool) → (x == y) ≡ b → (b || is_member xs y) ≡ true → P y
-    by_first rest true same _ = subst P (eqb-true x y same) (all 0 0 (omega arith))
-    by_first rest false other later = rest later
-
--- a member has a local, where there is one for each
-pub has_local : {L : Type 0} (members : List ℕ) (locals : List L) (rank : ℕ) → is_member members rank ≡ true → length locals ≡ length members
-    → (local : L) × (local_of members locals rank ≡ Some local)
-has_local [] locals rank member each = absurd (cc)
-has_local (x ∷ xs) [] rank member each = absurd (omega arith)
-has_local {L = L} (x ∷ xs) (l ∷ ls) rank member each = by_first (λ later. has_local xs ls rank later (omega arith)) (x == rank) member
-  where
-    by_first : (is_member xs rank ≡ true → (local : L) × (local_of xs ls rank ≡ Some local)) → (b : Bool) → (b || is_member xs rank) ≡ true
-        → (local : L) × (cond b (Some l) (local_of xs ls rank) ≡ Some local)
-    by_first rest true _ = (l, refl)
-    by_first rest false later = rest later
-
-same_tests : (a b : Bool) → (a ≡ true → b ≡ true) → (b ≡ true → a ≡ true) → a ≡ b
-same_tests true b there back = sym (there refl)
-same_tests false true there back = back refl
-same_tests false false there back = refl
-
 option_cases : {X : Type 0} (o : Option X) → (o ≡ None) ⊎ ((x : X) × (o ≡ Some x))
 option_cases None = inl refl
 option_cases (Some x) = inr (x, refl)
@@ -149,7 +126,7 @@ module _ {S L M T R : Type 0} (m : Meanings S L M T R) (good : S → Epoch → �
       → (is_member epoch.members peer ≡ true) × (peer ≢ rank)
   peer_is_other rank peer round within among =
       let its : (local : L) × (local_at m setup epoch start rank round ≡ Some local) = with_peer m setup epoch start rank peer round among in
-      holds_of (λ p. IsTrue (is_member epoch.members p) × (p ≢ rank)) (m.peers setup its.0 epoch round) peer
+      all_member (λ p. IsTrue (is_member epoch.members p) × (p ≢ rank)) (m.peers setup its.0 epoch round) peer
       (peers.others epoch round _ rank its.0 (good_at round within) within its.1)
       (sym (ap (λ xs. is_member xs peer) (peers_of m setup epoch start rank round its.0 its.1)) ∙ among)
 

@@ -3,7 +3,7 @@ use Rattle.std.proofs.Common.{◌≡◌, ◌≢◌, ℕ, zero, suc, ◌+◌, ◌
 use Rattle.std.specs.Prelude.{◌==◌, sum_by}
 use Rattle.std.specs.List.{range_with_len}
 use Rattle.std.specs.List.Sorted.{IsStrictlyIncreasing}
-use Rattle.std.proofs.lemmas.Bool.{cases_eq, cases_lt, eqb-true, eq-eqb}
+use Rattle.std.proofs.lemmas.Bool.{cases_eq, cases_lt, eqb-true, eq-eqb, or_right, or_left}
 use Rattle.std.proofs.lemmas.List.Sums.{sum_by-cons, sum_by-le-sum_by}
 use Rattle.bf_buddy.specs.Members.{is_member}
 
@@ -53,17 +53,8 @@ climbs xs rising (suc k) within =
 
 in_at : (xs : List ℕ) (i : ℕ) → i < length xs → is_member xs (get_or xs i 0) ≡ true
 in_at [] i within = absurd (omega (arith, within))
-in_at (x ∷ xs) zero within = first_in (x == x) (is_member xs x) (eq-eqb x x refl)
-  where
-    first_in : (a b : Bool) → a ≡ true → (a || b) ≡ true
-    first_in true b holds = refl
-    first_in false b holds = absurd (cc)
-in_at (x ∷ xs) (suc i) within = rest_in (x == get_or xs i 0) (is_member xs (get_or xs i 0)) (in_at xs i (omega (arith, within)))
-  where
-    rest_in : (a b : Bool) → b ≡ true → (a || b) ≡ true
-    rest_in true b holds = refl
-    rest_in false b holds = holds
-
+in_at (x ∷ xs) zero within = or_left (x == x) (is_member xs x) (eq-eqb x x refl)
+in_at (x ∷ xs) (suc i) within = or_right (x == get_or xs i 0) (is_member xs (get_or xs i 0)) (in_at xs i (omega (arith, within)))
 climbs_over : (xs : List ℕ) (v : ℕ) → IsStrictlyIncreasing xs → ((k : ℕ) → k < length xs → get_or xs k 0 ≢ v)
     → (k : ℕ) → k < length xs → v < get_or xs k 0 → k + 1 ≤ get_or xs k 0
 climbs_over xs v rising misses zero within above = omega (arith, above)

@@ -1,5 +1,6 @@
 -- Every journal leads the state machine from its opening, so the laws of the state machine hold of its core.
 use Rattle.std.proofs.Common.{◌≡◌, ℕ, true, List, [], ◌∷◌, refl, sym, ◌∙◌, ap}
+use Rattle.std.proofs.lemmas.Bool.{and_parts, and_from}
 use Rattle.bf_program.specs.Meanings.{Meanings}
 use Rattle.bf_program.specs.Laws.{KeepsLimits, KeepsGood, KeepsStored}
 use Rattle.bf_program.specs.declared.epoch.Epoch.{Epoch}
@@ -7,11 +8,8 @@ use Rattle.bf_core.specs.declared.event.Event.{Event}
 use Rattle.bf_core.specs.Legal.{actor, is_legal}
 use Rattle.bf_core.specs.Journals.{Move, after, are_legal}
 use Rattle.bf_core.specs.Orders.{IsReached}
-use Rattle.bf_core.proofs.SoundLemmas.{first_of_two}
-use Rattle.bf_core.proofs.LawLemmas.{second_of_two}
 use Rattle.bf_world.specs.Runs.{Run, place, will_be_filled, opening_run, next_run, is_legal_in, run_from, is_legal_from, run_after, is_journal}
 use Rattle.bf_world.proofs.LawfulLemmas.{core_next}
-use Rattle.bf_world.proofs.WorldLemmas.{and_both}
 
 module _ {S L M T R : Type 0} (m : Meanings S L M T R) (setup : S) where
   -- the events of a journal, with the places at which their ranks stand
@@ -33,10 +31,10 @@ module _ {S L M T R : Type 0} (m : Meanings S L M T R) (good : S → Epoch → �
   unfolding moves_from is_legal_in
   moves_legal run [] legal = refl
   moves_legal run (event ∷ events) legal =
-      let first : is_legal_in m setup run event ≡ true = first_of_two (is_legal_in m setup run event) _ legal in
-      and_both (is_legal run.core event (place run (actor event))) _ (first_of_two (is_legal run.core event (place run (actor event))) _ first)
+      let first : is_legal_in m setup run event ≡ true = (and_parts (is_legal_in m setup run event) _ legal).0 in
+      and_from (is_legal run.core event (place run (actor event))) _ (and_parts (is_legal run.core event (place run (actor event))) _ first).0
       (ap (λ state. are_legal state (moves_from m setup (next_run m setup run event) events)) (sym (core_next m good setup goods stores run event))
-      ∙ moves_legal (next_run m setup run event) events (second_of_two (is_legal_in m setup run event) _ legal))
+      ∙ moves_legal (next_run m setup run event) events (and_parts (is_legal_in m setup run event) _ legal).1)
 
   pub after_reached : KeepsLimits m setup → (journal : List Event) → is_journal m setup journal ≡ true → IsReached (run_after m setup journal).core
   unfolding run_after is_journal opening_run

@@ -2,7 +2,7 @@
 use Rattle.std.proofs.Common.{◌≡◌, ◌≢◌, ℕ, ◌<◌, Bool, true, false, cond, ◌&&◌, ◌||◌, not, List, [], ◌∷◌, ◌++◌, map, filter, length, arith, refl, sym, subst, ◌∙◌, ap, inl, inr}
 use Rattle.std.specs.Prelude.{◌==◌, IsPermutation, Option, Some, None, is_some, if◌then◌else◌}
 use Rattle.std.specs.List.{flat_map, range_with_len}
-use Rattle.std.proofs.lemmas.Bool.{cases_eq, eqb-true, eq-eqb}
+use Rattle.std.proofs.lemmas.Bool.{cases_eq, eqb-true, eq-eqb, or_right, and_right, and_parts}
 use Rattle.std.proofs.lemmas.List.{flat_map_more}
 use Rattle.std.proofs.lemmas.List.Elements.{filter-append}
 use Rattle.bf_buddy.specs.Members.{is_member, without}
@@ -25,8 +25,8 @@ use Rattle.bf_core.specs.States.{State, stage, is_active, opening}
 use Rattle.bf_core.specs.Legal.{is_legal, waits, actor}
 use Rattle.bf_core.specs.Next.{with_stage, may_decide, happened, is_ripe, decision, decided, dissolved, ended, committed, restored}
 use Rattle.bf_core.proofs.StageLemmas.{is_rank, stage_dissolved}
-use Rattle.bf_core.proofs.SoundLemmas.{IsMoved, is_open, moved_stage, same_tests, first_of_two, acting, in_list, leaving_stage, not_gone, active_of, opening_fails}
-use Rattle.bf_core.proofs.LawLemmas.{IsStep, step_of, IsSameEpoch, same_epoch, running_where_ripe, commit_needs_members, second_of_two}
+use Rattle.bf_core.proofs.SoundLemmas.{IsMoved, is_open, moved_stage, same_tests, acting, in_list, leaving_stage, not_gone, active_of, opening_fails}
+use Rattle.bf_core.proofs.LawLemmas.{IsStep, step_of, IsSameEpoch, same_epoch, running_where_ripe, commit_needs_members}
 use Rattle.bf_world.specs.Course.{local_at}
 use Rattle.bf_world.specs.Results.{parcels_of}
 use Rattle.bf_world.specs.Runs.{Run, place, begun, last_locals, will_be_filled, parcel_with, parcel_of, run_happened, run_decided, run_settled, next_run, is_legal_in, opening_run, run_from, is_legal_from, run_after, is_journal}
@@ -67,14 +67,6 @@ unopened Leaving _ = refl
 unopened Ended _ = refl
 unopened Dead _ = refl
 unopened Gone _ = refl
-
-and_false : (a b : Bool) → b ≡ false → (a && b) ≡ false
-and_false true b none = none
-and_false false b none = refl
-
-or_true : (a b : Bool) → b ≡ true → (a || b) ≡ true
-or_true true b holds = refl
-or_true false b holds = holds
 
 or_false : (a b : Bool) → b ≡ false → (a || b) ≡ a
 or_false true b none = refl
@@ -126,7 +118,7 @@ module _ {S L M T R : Type 0} (m : Meanings S L M T R) (setup : S) where
       | inl e ↦
           let P : ℕ → Type 0 = λ y. (is_member given.arrivals y || (rank == y))
           ≡ (has_finished_rounds (stage (with_stage run.core rank (Arrived Done filled)) y) && (run.core.epoch.target == run.core.steps)) in
-          subst P (sym e) (or_true _ _ (eq-eqb rank rank refl) ∙ sym (ap (λ s. has_finished_rounds s && (run.core.epoch.target == run.core.steps)) moved.its ∙ ends))
+          subst P (sym e) (or_right _ _ (eq-eqb rank rank refl) ∙ sym (ap (λ s. has_finished_rounds s && (run.core.epoch.target == run.core.steps)) moved.its ∙ ends))
       | inr differs ↦
           or_false _ _ (differs_back r rank differs) ∙ given.who r
           ∙ ap (λ s. has_finished_rounds s && (run.core.epoch.target == run.core.steps)) (sym (moved.others r differs))
@@ -146,7 +138,7 @@ module _ {S L M T R : Type 0} (m : Meanings S L M T R) (setup : S) where
   given_none run rank to within unended given = record {
     arrivals = given.arrivals;
     apart = given.apart;
-    who = λ r. given.who r ∙ and_false _ _ unended ∙ sym (and_false _ _ unended);
+    who = λ r. given.who r ∙ and_right _ _ unended ∙ sym (and_right _ _ unended);
     parcels_are = given.parcels_are;
   }
 
@@ -198,18 +190,18 @@ module _ {S L M T R : Type 0} (m : Meanings S L M T R) (setup : S) where
   happened_given : (run : Run L T) (event : Event) → is_legal run.core event (place run (actor event)) ≡ true → IsGiven run → IsGiven (run_happened m setup run event)
   unfolding parcel_of last_locals
   happened_given run (Send rank to blocks sum) legal given =
-      let runs : stage run.core rank ≡ Running = acting run.core rank (first_of_two (is_active run.core rank) _ legal) in
+      let runs : stage run.core rank ≡ Running = acting run.core rank (and_parts (is_active run.core rank) _ legal).0 in
       let moved : IsMoved run.core (with_stage run.core rank (stage run.core rank)) rank (stage run.core rank) = moved_stage run.core rank (stage run.core rank) (in_list run.core rank runs) in
       given_stays run (run_happened m setup run (Send rank to blocks sum)) rank (stage run.core rank) (record { its = moved.its; others = moved.others }) refl refl refl refl refl given
   happened_given run (Recv rank peer) legal given =
       let runs : stage run.core rank ≡ Running =
-      acting run.core rank (first_of_two (is_active run.core rank) _ (first_of_two (is_active run.core rank && is_just (next_receive (place run rank)) peer) _ legal)) in
+      acting run.core rank (and_parts (is_active run.core rank) _ (and_parts (is_active run.core rank && is_just (next_receive (place run rank)) peer) _ legal).0).0 in
       let moved : IsMoved run.core (with_stage run.core rank (stage run.core rank)) rank (stage run.core rank) = moved_stage run.core rank (stage run.core rank) (in_list run.core rank runs) in
       given_stays run (run_happened m setup run (Recv rank peer)) rank (stage run.core rank) (record { its = moved.its; others = moved.others }) refl refl refl refl refl given
   happened_given run (Arrive rank Done) legal given = by_end (run.core.epoch.target == run.core.steps) refl
     where
       runs : stage run.core rank ≡ Running
-      runs = acting run.core rank (first_of_two (is_active run.core rank) _ legal)
+      runs = acting run.core rank (and_parts (is_active run.core rank) _ legal).0
 
       by_end : (b : Bool) → (run.core.epoch.target == run.core.steps) ≡ b
           → IsGiven (record {
@@ -222,7 +214,7 @@ module _ {S L M T R : Type 0} (m : Meanings S L M T R) (setup : S) where
       by_end false unended = given_none run rank (Arrived Done (will_be_filled m setup run rank)) (in_list run.core rank runs) unended given
   happened_given run (Arrive rank Broken) legal given =
       let runs : stage run.core rank ≡ Running =
-      acting run.core rank (first_of_two (is_active run.core rank) _ (first_of_two (is_active run.core rank && waits run.core rank (place run rank)) _ legal)) in
+      acting run.core rank (and_parts (is_active run.core rank) _ (and_parts (is_active run.core rank && waits run.core rank (place run rank)) _ legal).0).0 in
       given_stays run (run_happened m setup run (Arrive rank Broken)) rank (Arrived Broken false) (moved_stage run.core rank (Arrived Broken false) (in_list run.core rank runs))
       (sym (ap has_finished_rounds runs)) refl refl refl refl given
   happened_given run (Arrive rank Memory) legal given =
@@ -230,7 +222,7 @@ module _ {S L M T R : Type 0} (m : Meanings S L M T R) (setup : S) where
       given_stays run (run_happened m setup run (Arrive rank Memory)) rank (Arrived Memory false) (moved_stage run.core rank (Arrived Memory false) (in_list run.core rank runs))
       (sym (ap has_finished_rounds runs)) refl refl refl refl given
   happened_given run (Leave rank) legal given =
-      let leaving : stage run.core rank ≡ Leaving = leaving_stage run.core rank (first_of_two (is_leaving (stage run.core rank)) _ legal) in
+      let leaving : stage run.core rank ≡ Leaving = leaving_stage run.core rank (and_parts (is_leaving (stage run.core rank)) _ legal).0 in
       given_stays run (run_happened m setup run (Leave rank)) rank (if is_some run.core.outcome then Ended else Running)
       (moved_stage run.core rank _ (is_rank is_leaving run.core rank refl (ap is_leaving leaving)))
       (by_end (is_some run.core.outcome) ∙ sym (ap has_finished_rounds leaving)) refl refl refl refl given
@@ -241,7 +233,7 @@ module _ {S L M T R : Type 0} (m : Meanings S L M T R) (setup : S) where
   happened_given run (Die rank) legal given = by_arrival (is_arrived (stage run.core rank)) refl
     where
       within : rank < length run.core.standings
-      within = is_rank goes_on run.core rank refl (first_of_two (goes_on (stage run.core rank)) _ legal)
+      within = is_rank goes_on run.core rank refl (and_parts (goes_on (stage run.core rank)) _ legal).0
 
       after : Bool → Run L T
       after b = record {
@@ -281,7 +273,7 @@ module _ {S L M T R : Type 0} (m : Meanings S L M T R) (good : S → Epoch → �
   -- before the last epoch nothing is given
   nothing_given : (run : Run L T) → IsGiven m setup run → (run.core.epoch.target == run.core.steps) ≡ false → run.parcels ≡ []
   nothing_given run given unended =
-      given.parcels_are ∙ ap (flat_map (gives m setup run.core.epoch run.start)) (none_listed given.arrivals (λ r. given.who r ∙ and_false _ _ unended))
+      given.parcels_are ∙ ap (flat_map (gives m setup run.core.epoch run.start)) (none_listed given.arrivals (λ r. given.who r ∙ and_right _ _ unended))
 
   -- where all members have arrived done in the last epoch, each has given
   all_given : (run : Run L T) → IsGiven m setup run → IsSteady m good setup run → (run.core.epoch.target == run.core.steps) ≡ true → Apart run.core.epoch.members
@@ -384,10 +376,10 @@ module _ {S L M T R : Type 0} (m : Meanings S L M T R) (good : S → Epoch → �
       → run.core.outcome ≡ Some outcome → IsResult run → IsResult (run_happened m setup run event)
   unfolding last_locals
   over_result run (Send rank to blocks sum) outcome lawful legal ends result =
-      absurd (let e : true ≡ false = sym (ap is_open (acting run.core rank (first_of_two (is_active run.core rank) _ legal))) ∙ lawful.sound.over outcome ends rank in cc)
+      absurd (let e : true ≡ false = sym (ap is_open (acting run.core rank (and_parts (is_active run.core rank) _ legal).0)) ∙ lawful.sound.over outcome ends rank in cc)
   over_result run (Recv rank peer) outcome lawful legal ends result =
-      absurd (let e : true ≡ false = sym (ap is_open (acting run.core rank (first_of_two (is_active run.core rank) _
-      (first_of_two (is_active run.core rank && is_just (next_receive (place run rank)) peer) _ legal)))) ∙ lawful.sound.over outcome ends rank in cc)
+      absurd (let e : true ≡ false = sym (ap is_open (acting run.core rank (and_parts (is_active run.core rank) _
+      (and_parts (is_active run.core rank && is_just (next_receive (place run rank)) peer) _ legal).0).0)) ∙ lawful.sound.over outcome ends rank in cc)
   over_result run (Arrive rank how) outcome lawful legal ends result =
       absurd (let e : true ≡ false = sym (ap is_open (acting run.core rank (active_of run.core rank how (place run rank) legal))) ∙ lawful.sound.over outcome ends rank in cc)
   over_result run (Leave rank) outcome lawful legal ends result = record {
@@ -409,7 +401,7 @@ module _ {S L M T R : Type 0} (m : Meanings S L M T R) (good : S → Epoch → �
   next_result run event lawful legal result = by_outcome run.core.outcome refl
     where
       core_legal : is_legal run.core event (place run (actor event)) ≡ true
-      core_legal = first_of_two (is_legal run.core event (place run (actor event))) _ legal
+      core_legal = (and_parts (is_legal run.core event (place run (actor event))) _ legal).0
 
       same : IsSameEpoch run.core (happened run.core event (will_be_filled m setup run (actor event)))
       same = same_epoch run.core event (will_be_filled m setup run (actor event))
@@ -425,7 +417,7 @@ module _ {S L M T R : Type 0} (m : Meanings S L M T R) (good : S → Epoch → �
       by_ripe : run.core.outcome ≡ None → (a : Bool) → may_decide event ≡ a → (b : Bool) → is_ripe (run_happened m setup run event).core ≡ b → IsResult (next_run m setup run event)
       by_ripe none false may b ripe = quiet (ap (λ c. c && is_ripe (run_happened m setup run event).core) may)
           (going_result (run_happened m setup run event) (same.outcome ∙ none) (happened_given m setup run event core_legal (result.going none)))
-      by_ripe none true may false unripe = quiet (and_false _ _ unripe)
+      by_ripe none true may false unripe = quiet (and_right _ _ unripe)
           (going_result (run_happened m setup run event) (same.outcome ∙ none) (happened_given m setup run event core_legal (result.going none)))
       by_ripe none true may true ripe =
           let members : (happened run.core event (will_be_filled m setup run (actor event))).epoch.members
@@ -457,9 +449,9 @@ module _ {S L M T R : Type 0} (m : Meanings S L M T R) (good : S → Epoch → �
   from_result : (run : Run L T) (journal : List Event) → IsLawful m good setup goods stores run → is_legal_from m setup run journal ≡ true → IsResult run → IsResult (run_from m setup run journal)
   from_result run [] lawful legal result = result
   from_result run (event ∷ events) lawful legal result =
-      let first : is_legal_in m setup run event ≡ true = first_of_two (is_legal_in m setup run event) _ legal in
+      let first : is_legal_in m setup run event ≡ true = (and_parts (is_legal_in m setup run event) _ legal).0 in
       from_result (next_run m setup run event) events (next_lawful m good setup goods stores run event lawful first)
-      (second_of_two (is_legal_in m setup run event) _ legal) (next_result run event lawful first result)
+      (and_parts (is_legal_in m setup run event) _ legal).1 (next_result run event lawful first result)
 
   pub after_result : KeepsLimits m setup → (journal : List Event) → is_journal m setup journal ≡ true → IsResult (run_after m setup journal)
   unfolding run_after is_journal

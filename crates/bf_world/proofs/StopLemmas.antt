@@ -1,6 +1,8 @@
 -- What an arrival or a death leaves, told from the state after it.
 use Rattle.std.proofs.Common.{◌≡◌, ℕ, ◌+◌, Bool, true, false, ◌&&◌, ◌||◌, not, [], map, refl, sym, ◌∙◌, ap}
 use Rattle.std.specs.Prelude.{◌==◌, is_some, if◌then◌else◌}
+use Rattle.std.proofs.Math.Bool.{and-false}
+use Rattle.std.proofs.lemmas.Bool.{not-true, and_parts}
 use Rattle.bf_program.specs.Meanings.{Meanings}
 use Rattle.bf_core.specs.declared.decision.Decision.{Decision}
 use Rattle.bf_core.specs.declared.decision.Decision.TheVariants.{Lose, WantMemory, Commit, Restore}
@@ -12,7 +14,6 @@ use Rattle.bf_core.specs.Stages.{is_arrived, is_dead, after_decision}
 use Rattle.bf_core.specs.States.{State, stage, has_everyone_arrived}
 use Rattle.bf_core.specs.Legal.{actor}
 use Rattle.bf_core.specs.Next.{may_decide, happened, is_ripe, decision, decided, settled, dissolved, ended, committed}
-use Rattle.bf_core.proofs.SoundLemmas.{first_of_two}
 use Rattle.bf_core.proofs.ArrivalLemmas.{decided_stage}
 use Rattle.bf_world.specs.Queues.{Waiting, no_messages}
 use Rattle.bf_world.specs.Runs.{Run, begun, last_locals, will_be_filled, run_happened, run_decided, run_settled, next_run}
@@ -40,10 +41,6 @@ shows state rank stopped = by_ripe (is_ripe state)
     by_ripe true = ap (λ s. not (is_stopped s)) (decided_stage state (decision state) rank) ∙ ap not (moves_on (stage state rank))
     by_ripe false = ap not stopped
 
-not_true : (b : Bool) → not b ≡ true → b ≡ false
-not_true true holds = absurd (cc)
-not_true false holds = refl
-
 -- a restore shows in the epoch that it begins
 restore_shows : (state : State) (made : Decision) → is_some state.outcome ≡ false → is_restored (decided state made) ≡ is_restore true made
 unfolding decided dissolved
@@ -51,13 +48,9 @@ restore_shows state (Lose home buddy) on = refl
 restore_shows state WantMemory on = refl
 restore_shows state Commit on = by_end (state.epoch.target == state.steps)
   where
-    no : (b : Bool) → (b && false) ≡ false
-    no true = refl
-    no false = refl
-
     by_end : (b : Bool) → is_restored (if b then ended state outcomes.Finished else committed state) ≡ false
     by_end true = refl
-    by_end false = no (not (is_some state.outcome))
+    by_end false = and-false (not (is_some state.outcome))
 restore_shows state Restore on = ap (λ b. not b && true) on
 
 pub no_restore : (made : Decision) → is_restore false made ≡ false
@@ -72,7 +65,7 @@ unfolding settled
 settled_restore state rank stopped = ap (λ b. b && is_restored (settled state)) (shows state rank stopped) ∙ by_ripe (is_ripe state) refl
   where
     by_ripe : (b : Bool) → is_ripe state ≡ b → (b && is_restored (if b then decided state (decision state) else state)) ≡ is_restore b (decision state)
-    by_ripe true ripe = restore_shows state (decision state) (not_true (is_some state.outcome) (first_of_two (not (is_some state.outcome)) (has_everyone_arrived state) ripe))
+    by_ripe true ripe = restore_shows state (decision state) (not-true (is_some state.outcome) (and_parts (not (is_some state.outcome)) (has_everyone_arrived state) ripe).0)
     by_ripe false unripe = sym (no_restore (decision state))
 
 module _ {S L M T R : Type 0} (m : Meanings S L M T R) (setup : S) where

@@ -2,8 +2,9 @@
 use Rattle.std.proofs.Common.{◌≡◌, ℕ, zero, suc, ◌+◌, ◌-◌, ◌*◌, ◌<◌, Bool, true, false, cond, ◌&&◌, ◌||◌, not, List, [], ◌∷◌, ◌++◌, map, filter, drop, length, replicate, get_or, slice_set, arith, refl, sym, ◌∙◌, ap}
 use Rattle.std.specs.Prelude.{◌==◌, Option, Some, None, if◌then◌else◌, slice_get}
 use Rattle.std.specs.List.{range_with_len}
-use Rattle.std.proofs.lemmas.Bool.{eqb-true, eq-eqb}
+use Rattle.std.proofs.lemmas.Bool.{eqb-true, eq-eqb, and_parts}
 use Rattle.std.proofs.lemmas.List.{length_push, length-drop, length-replicate, length-map, nil_from_length}
+use Rattle.bf_core.proofs.LegalLemmas.{just_some}
 use Rattle.bf_buddy.specs.Members.{is_member}
 use Rattle.bf_program.specs.declared.epoch.Epoch.{Epoch}
 use Rattle.bf_program.specs.Meanings.{Meanings}
@@ -16,18 +17,17 @@ use Rattle.bf_core.specs.declared.outcome.Outcome.{Outcome}
 use Rattle.bf_core.specs.declared.outcome.Outcome.TheVariants as outcomes
 use Rattle.bf_core.specs.declared.standing.Stage.TheVariants.{Running}
 use Rattle.bf_core.specs.Stages.{is_gone}
-use Rattle.bf_core.specs.Places.{is_just, next_send, next_receive}
+use Rattle.bf_core.specs.Places.{is_just, next_send, next_receive, round_of}
 use Rattle.bf_core.specs.Orders.{IsBehind}
 use Rattle.bf_core.specs.States.{State, stage, queue, channel, is_active, opening}
 use Rattle.bf_core.specs.Legal.{is_legal, is_empty_from}
 use Rattle.bf_core.specs.Next.{dissolved, ended, committed, decided, is_ripe, decision}
-use Rattle.bf_core.proofs.LawLemmas.{second_of_two}
-use Rattle.bf_core.proofs.SoundLemmas.{IsSound, is_open, first_of_two, acting, in_list}
+use Rattle.bf_core.proofs.SoundLemmas.{IsSound, is_open, acting, in_list}
 use Rattle.bf_world.specs.Course.{peers_at, message_at}
 use Rattle.bf_world.specs.Messages.{HoldsMessages, AreQueuesOf}
 use Rattle.bf_world.specs.Queues.{Waiting, messages, with_messages, no_messages, lengths, IsSquare}
-use Rattle.bf_world.specs.Runs.{Run, place, round_of, begun, last_locals, opening_run, run_happened, run_decided, run_settled, next_run}
-use Rattle.bf_world.proofs.LawfulLemmas.{just, IsSteady, decided_core}
+use Rattle.bf_world.specs.Runs.{Run, place, begun, last_locals, opening_run, run_happened, run_decided, run_settled, next_run}
+use Rattle.bf_world.proofs.LawfulLemmas.{IsSteady, decided_core}
 use Rattle.bf_world.proofs.QueueLemmas.{still_square, lengths_after, lengths_of_none, length_at}
 use Rattle.bf_world.proofs.PeerLemmas.{peer_is_other}
 use Rattle.bf_world.proofs.MessageLemmas.{sends_to_peer, receives_from_peer}
@@ -201,8 +201,8 @@ module _ {S L M T R : Type 0} (m : Meanings S L M T R) (good : S → Epoch → �
   pub sends_legally : (run : Run L T) (rank to blocks sum : ℕ) → IsSteady m good setup run → IsSound run.core → is_legal run.core (Send rank to blocks sum) (place run rank) ≡ true
       → (next_send (place run rank) ≡ Some to) × GoBetween m setup run rank to
   sends_legally run rank to blocks sum steady sound legal =
-      let runs : stage run.core rank ≡ Running = acting run.core rank (first_of_two (is_active run.core rank) _ legal) in
-      let sends : next_send (place run rank) ≡ Some to = just _ to (second_of_two (is_active run.core rank) _ legal) in
+      let runs : stage run.core rank ≡ Running = acting run.core rank (and_parts (is_active run.core rank) _ legal).0 in
+      let sends : next_send (place run rank) ≡ Some to = just_some _ to (and_parts (is_active run.core rank) _ legal).1 in
       (sends, between run rank to steady sound runs (sends_to_peer m setup run.core.epoch run.start rank to (place run rank) (steady.placed rank) sends))
 
   -- who receives legally, and from whom
@@ -210,9 +210,9 @@ module _ {S L M T R : Type 0} (m : Meanings S L M T R) (good : S → Epoch → �
       → (next_receive (place run rank) ≡ Some peer) × GoBetween m setup run rank peer
   receives_legally run rank peer steady sound legal =
       let active : is_active run.core rank && is_just (next_receive (place run rank)) peer ≡ true =
-      first_of_two (is_active run.core rank && is_just (next_receive (place run rank)) peer) _ legal in
-      let runs : stage run.core rank ≡ Running = acting run.core rank (first_of_two (is_active run.core rank) _ active) in
-      let receives : next_receive (place run rank) ≡ Some peer = just _ peer (second_of_two (is_active run.core rank) _ active) in
+      (and_parts (is_active run.core rank && is_just (next_receive (place run rank)) peer) _ legal).0 in
+      let runs : stage run.core rank ≡ Running = acting run.core rank (and_parts (is_active run.core rank) _ active).0 in
+      let receives : next_receive (place run rank) ≡ Some peer = just_some _ peer (and_parts (is_active run.core rank) _ active).1 in
       (receives, between run rank peer steady sound runs (receives_from_peer m setup run.core.epoch run.start rank peer (place run rank) (steady.placed rank) receives))
 
   -- a message is sent
@@ -243,7 +243,7 @@ module _ {S L M T R : Type 0} (m : Meanings S L M T R) (good : S → Epoch → �
       let does : (next_receive (place run rank) ≡ Some peer) × GoBetween m setup run rank peer = receives_legally run rank peer steady sound legal in
       let some : not (queue run.core peer rank == 0) ≡ true =
       sym (ap (λ o. not (is_empty_from run.core rank o)) does.0)
-      ∙ second_of_two (is_active run.core rank && is_just (next_receive (place run rank)) peer) _ legal in
+      ∙ (and_parts (is_active run.core rank && is_just (next_receive (place run rank)) peer) _ legal).1 in
       let first : (msg : M) × (slice_get (messages waiting peer rank) 0 ≡ Some msg) =
       some_first (messages waiting peer rank) (λ none. not_empty (queue run.core peer rank) some
       (queue_length run.core waiting peer rank its.counts (its.ranks ∙ sym steady.ranks) ∙ none)) in (

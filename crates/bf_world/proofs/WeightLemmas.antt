@@ -4,11 +4,12 @@ use Rattle.std.specs.Prelude.{◌==◌, Option, Some, None, is_some, if◌then�
 use Rattle.std.specs.List.{range_with_len}
 use Rattle.std.proofs.Math.Nat.{mul-le-mul_left}
 use Rattle.std.proofs.lemmas.Nat.{div-add-mod', div-mul-add, mod_below}
-use Rattle.std.proofs.lemmas.Bool.{cases_eq, eq-eqb, ltb-true, ltb-false}
+use Rattle.std.proofs.lemmas.Bool.{cases_eq, eq-eqb, ltb-true, ltb-false, not-true, and_parts}
 use Rattle.std.proofs.lemmas.List.{get_or-set_same, get_or-set_other}
 use Rattle.std.proofs.lemmas.List.Sums.{sum_by-le-sum_by}
 use Rattle.std.proofs.lemmas.List.FromFn.{length-range_with_len}
 use Rattle.std.proofs.lemmas.Option.{slice_get_within}
+use Rattle.bf_core.proofs.LegalLemmas.{just_some}
 use Rattle.bf_buddy.specs.Members.{is_member}
 use Rattle.bf_buddy.specs.Losses.{first_lost_of}
 use Rattle.bf_program.specs.declared.epoch.Epoch.{Epoch}
@@ -35,15 +36,15 @@ use Rattle.bf_core.specs.States.{State, stage, is_active, is_short_of_memory, ha
 use Rattle.bf_core.specs.Legal.{actor, is_legal}
 use Rattle.bf_core.specs.Next.{with_stage, may_decide, happened, is_ripe, is_everyone_done, decision, decision_where, decided, settled, dissolved, ended, committed, restored, next}
 use Rattle.bf_core.proofs.StageLemmas.{nobody, Someone, nobody_any, is_rank, stage_same, stage_other, stage_dissolved}
-use Rattle.bf_core.proofs.SoundLemmas.{IsSound, first_of_two, acting, in_list, leaving_stage, not_gone, same_tests, active_of}
+use Rattle.bf_core.proofs.SoundLemmas.{IsSound, acting, in_list, leaving_stage, not_gone, same_tests, active_of}
 use Rattle.bf_core.proofs.ArrivalLemmas.{IsFair, is_broken, has_ended, happened_fair}
-use Rattle.bf_core.proofs.LawLemmas.{IsStep, step_of, IsSameEpoch, same_epoch, running_where_ripe, second_of_two, next_settles, next_happens, ripe_decides, unripe_waits}
+use Rattle.bf_core.proofs.LawLemmas.{IsStep, step_of, IsSameEpoch, same_epoch, running_where_ripe, next_settles, next_happens, ripe_decides, unripe_waits}
 use Rattle.bf_world.specs.Course.{peers_at, place_with, place_from, after_send, after_receive}
 use Rattle.bf_world.specs.Runs.{Run, place, begun, last_locals, opening_run, will_be_filled, run_happened, run_decided, run_settled, next_run, is_legal_in, run_from, is_legal_from, run_after, is_journal}
 use Rattle.bf_world.specs.Worlds.{is_restore, brings_decision, brings_restore, restores_from, restores_in}
 use Rattle.bf_world.proofs.StopLemmas.{no_restore}
 use Rattle.bf_world.specs.Weights.{peers_left, steps_left, intervals_in, left_of, epochs_left, most_left, left_of_rank, total, bound, weight_within, weight, most_events}
-use Rattle.bf_world.proofs.LawfulLemmas.{just, IsSteady, IsLawful, next_lawful, opening_lawful, after_lawful, core_next}
+use Rattle.bf_world.proofs.LawfulLemmas.{IsSteady, IsLawful, next_lawful, opening_lawful, after_lawful, core_next}
 use Rattle.bf_world.proofs.PeerLemmas.{peers_rise, peer_is_other}
 use Rattle.bf_world.proofs.PlaceLemmas.{IsPlaced, receives_at}
 use Rattle.bf_world.proofs.RangeLemmas.{sums_less, rising_fewer, sums_within, filter_fewer}
@@ -111,10 +112,6 @@ undone_where_restored state restores = by_loss (first_lost_of state.epoch.homes 
     by_loss (Some lost) loses = absurd (cc)
     by_loss None restore = by_short (is_short_of_memory state) restore
 
-unnot : (b : Bool) → not b ≡ true → b ≡ false
-unnot true still = absurd (cc)
-unnot false _ = refl
-
 pub someone_dead : (state : State) → is_ripe state ≡ true → IsFair state → decision state ≡ Restore → Someone is_dead state
 someone_dead state ripe fair restores =
     by_stage (stage state undone.0) refl
@@ -126,7 +123,7 @@ someone_dead state ripe fair restores =
     undone = fails_at {X = Standing} (λ s. is_gone s.stage || has_finished_rounds s.stage) state.standings nobody (undone_where_restored state restores).1
 
     awaits : is_awaited (stage state undone.0) ≡ false
-    awaits = nobody_any is_awaited state refl (unnot _ (second_of_two (not (is_some state.outcome)) (has_everyone_arrived state) ripe)) undone.0
+    awaits = nobody_any is_awaited state refl (not-true _ (and_parts (not (is_some state.outcome)) (has_everyone_arrived state) ripe).1) undone.0
 
     fits : is_short (stage state undone.0) ≡ false
     fits = nobody_any is_short state refl (undone_where_restored state restores).0 undone.0
@@ -481,18 +478,18 @@ module _ {S L M T R : Type 0} (m : Meanings S L M T R) (good : S → Epoch → �
   happened_less : (run : Run L T) (event : Event) → IsSteady m good setup run → IsSound run.core → is_legal run.core event (place run (actor event)) ≡ true
       → total m setup (run_happened m setup run event) < total m setup run
   happened_less run (Send rank to blocks sum) steady sound legal =
-      let runs : stage run.core rank ≡ Running = acting run.core rank (first_of_two (is_active run.core rank) _ legal) in
+      let runs : stage run.core rank ≡ Running = acting run.core rank (and_parts (is_active run.core rank) _ legal).0 in
       let listed : rank < length run.core.standings = in_list run.core rank runs in
-      let sends : next_send (place run rank) ≡ Some to = just _ to (second_of_two (is_active run.core rank) _ legal) in
+      let sends : next_send (place run rank) ≡ Some to = just_some _ to (and_parts (is_active run.core rank) _ legal).1 in
       stepped_less m setup run _ _ rank (after_send (place run rank)) runs listed
       (omega (arith, listed, steady.size, steady.ranks, sound.size)) (omega (arith, listed, steady.ranks, sound.size))
       (send_steps m setup run.core.epoch run.start rank (place run rank) to (steady.placed rank) sends)
   happened_less run (Recv rank peer) steady sound legal =
       let active : is_active run.core rank && is_just (next_receive (place run rank)) peer ≡ true =
-      first_of_two (is_active run.core rank && is_just (next_receive (place run rank)) peer) _ legal in
-      let runs : stage run.core rank ≡ Running = acting run.core rank (first_of_two (is_active run.core rank) _ active) in
+      (and_parts (is_active run.core rank && is_just (next_receive (place run rank)) peer) _ legal).0 in
+      let runs : stage run.core rank ≡ Running = acting run.core rank (and_parts (is_active run.core rank) _ active).0 in
       let listed : rank < length run.core.standings = in_list run.core rank runs in
-      let receives : next_receive (place run rank) ≡ Some peer = just _ peer (second_of_two (is_active run.core rank) _ active) in
+      let receives : next_receive (place run rank) ≡ Some peer = just_some _ peer (and_parts (is_active run.core rank) _ active).1 in
       stepped_less m setup run _ _ rank (after_receive m setup run.core.epoch run.start rank (place run rank)) runs listed
       (omega (arith, listed, steady.size, steady.ranks, sound.size)) (omega (arith, listed, steady.ranks, sound.size))
       (receive_steps m setup run.core.epoch run.start rank (place run rank) peer (steady.placed rank) receives)
@@ -502,12 +499,12 @@ module _ {S L M T R : Type 0} (m : Meanings S L M T R) (good : S → Epoch → �
       staged_less m setup run _ rank (Arrived how (is_done how && will_be_filled m setup run rank)) listed (omega (arith, listed, steady.ranks, sound.size))
       (arrive_lowers (is_some run.core.outcome) (stage run.core rank) _ runs)
   happened_less run (Leave rank) steady sound legal =
-      let leaving : stage run.core rank ≡ Leaving = leaving_stage run.core rank (first_of_two (is_leaving (stage run.core rank)) _ legal) in
+      let leaving : stage run.core rank ≡ Leaving = leaving_stage run.core rank (and_parts (is_leaving (stage run.core rank)) _ legal).0 in
       let listed : rank < length run.core.standings = is_rank is_leaving run.core rank refl (ap is_leaving leaving) in
       staged_less m setup run _ rank (if is_some run.core.outcome then Ended else Running) listed (omega (arith, listed, steady.ranks, sound.size))
       (leave_lowers (is_some run.core.outcome) (stage run.core rank) _ leaving)
   happened_less run (Die rank) steady sound legal =
-      let goes : goes_on (stage run.core rank) ≡ true = first_of_two (goes_on (stage run.core rank)) _ legal in
+      let goes : goes_on (stage run.core rank) ≡ true = (and_parts (goes_on (stage run.core rank)) _ legal).0 in
       let listed : rank < length run.core.standings = is_rank goes_on run.core rank refl goes in
       staged_less m setup run _ rank Dead listed (omega (arith, listed, steady.ranks, sound.size)) (die_lowers (is_some run.core.outcome) (stage run.core rank) _ goes)
 
@@ -659,7 +656,7 @@ module _ {S L M T R : Type 0} (m : Meanings S L M T R) (good : S → Epoch → �
   weight_falls run event lawful timed legal = by_event (may_decide event) refl
     where
       core_legal : is_legal run.core event (place run (actor event)) ≡ true
-      core_legal = first_of_two (is_legal run.core event (place run (actor event))) _ legal
+      core_legal = (and_parts (is_legal run.core event (place run (actor event))) _ legal).0
 
       before : weight_within m setup rounds (run_happened m setup run event) < weight_within m setup rounds run
       before = happened_weight m good setup rounds run event lawful.steady lawful.sound core_legal
@@ -719,12 +716,12 @@ module _ {S L M T R : Type 0} (m : Meanings S L M T R) (good : S → Epoch → �
       → length journal + weight_within m setup rounds (run_from m setup run journal) ≤ weight_within m setup rounds run
   lightens run [] lawful timed legal = omega arith
   lightens run (event ∷ events) lawful timed legal =
-      let first : is_legal_in m setup run event ≡ true = first_of_two (is_legal_in m setup run event) _ legal in
+      let first : is_legal_in m setup run event ≡ true = (and_parts (is_legal_in m setup run event) _ legal).0 in
       omega (
         arith,
         weight_falls run event lawful timed first,
         lightens (next_run m setup run event) events (next_lawful m good setup goods stores run event lawful first) (next_run_timed run event timed)
-            (second_of_two (is_legal_in m setup run event) _ legal),
+            (and_parts (is_legal_in m setup run event) _ legal).1,
       )
 
   pub journal_bounded : (journal : List Event) → is_journal m setup journal ≡ true
@@ -766,13 +763,13 @@ module _ {S L M T R : Type 0} (m : Meanings S L M T R) (good : S → Epoch → �
       by_restore (brings_restore m setup run event)
       (subst P (sym (core_next m good setup goods stores run event))
       (members_next run.core event (place run (actor event)) (will_be_filled m setup run (actor event)) lawful.sound lawful.fair core_legal))
-      (λ count. restores_bounded (next_run m setup run event) events count (next_lawful m good setup goods stores run event lawful first) (second_of_two (is_legal_in m setup run event) _ legal))
+      (λ count. restores_bounded (next_run m setup run event) events count (next_lawful m good setup goods stores run event lawful first) (and_parts (is_legal_in m setup run event) _ legal).1)
     where
       first : is_legal_in m setup run event ≡ true
-      first = first_of_two (is_legal_in m setup run event) _ legal
+      first = (and_parts (is_legal_in m setup run event) _ legal).0
 
       core_legal : is_legal run.core event (place run (actor event)) ≡ true
-      core_legal = first_of_two (is_legal run.core event (place run (actor event))) _ first
+      core_legal = (and_parts (is_legal run.core event (place run (actor event))) _ first).0
 
       P : State → Type 0
       P state = (if brings_restore m setup run event then 1 else 0) + length state.epoch.members ≤ length run.core.epoch.members

@@ -1,8 +1,8 @@
 -- What a world keeps from call to call.
 use Rattle.std.proofs.Common.{◌≡◌, ℕ, ◌+◌, ◌*◌, ◌≤◌, max, Bool, true, false, ◌&&◌, List, [], ◌∷◌, ◌++◌, length, get_or, arith, sym, subst, ◌∙◌, ap}
 use Rattle.std.specs.Prelude.{Option, Some, None, if◌then◌else◌, Result, Ok, Err, is_err, OnOk}
-use Rattle.std.proofs.lemmas.Bool.{eq-eqb}
-use Rattle.std.proofs.lemmas.Option.{slice_get-get_or}
+use Rattle.std.proofs.lemmas.Bool.{eq-eqb, and_from, and_parts}
+use Rattle.std.proofs.lemmas.Option.{slice_get-get_or, same_Some}
 use Rattle.bf_buddy.specs.Members.{is_member}
 use Rattle.bf_program.specs.declared.epoch.Epoch.{Epoch}
 use Rattle.bf_program.specs.Meanings.{Meanings}
@@ -17,7 +17,7 @@ use Rattle.bf_core.specs.Places.{is_just, next_receive, PeersBelow}
 use Rattle.bf_core.specs.States.{State, standing, stage, queue, channel, is_active}
 use Rattle.bf_core.specs.Legal.{actor, waits, is_legal, IsLegalSomewhere}
 use Rattle.bf_core.specs.Next.{next}
-use Rattle.bf_core.proofs.SoundLemmas.{IsSound, first_of_two, acting}
+use Rattle.bf_core.proofs.SoundLemmas.{IsSound, acting}
 use Rattle.bf_world.specs.Course.{peers_at}
 use Rattle.bf_world.specs.Journals.{Noted}
 use Rattle.bf_world.specs.Messages.{AreQueuesOf}
@@ -31,15 +31,8 @@ use Rattle.bf_world.proofs.WaitingLemmas.{goes_on_while, member_below}
 use Rattle.bf_world.proofs.RunLemmas.{run_more, journal_more, restores_more, events_within, queues_within}
 use Rattle.bf_world.proofs.NeedLemmas.{need_bounded}
 
-pub and_both : (a b : Bool) → a ≡ true → b ≡ true → (a && b) ≡ true
-and_both true b first second = second
-and_both false b first second = absurd (cc)
-
 pub just_same : (o : Option ℕ) (n : ℕ) → o ≡ Some n → is_just o n ≡ true
-just_same (Some k) n same = eq-eqb k n (some_same same)
-  where
-    some_same : {k n : ℕ} → Some k ≡ Some n → k ≡ n
-    some_same e = cc
+just_same (Some k) n same = eq-eqb k n (same_Some _ _ same)
 just_same None n same = absurd (cc)
 
 -- what holds where a call did not fail
@@ -80,22 +73,22 @@ module _ {S L M T R : Type 0} (m : Meanings S L M T R) (good : S → Epoch → �
   somewhere : (run : Run L T) (event : Event) → IsLawful m good setup goods stores run → is_legal run.core event (place run (actor event)) ≡ true
       → IsLegalSomewhere run.core event
   somewhere run (Send rank to blocks sum) lawful legal =
-      active_somewhere run (Send rank to blocks sum) rank lawful (acting run.core rank (first_of_two (is_active run.core rank) _ legal)) legal
+      active_somewhere run (Send rank to blocks sum) rank lawful (acting run.core rank (and_parts (is_active run.core rank) _ legal).0) legal
   somewhere run (Recv rank peer) lawful legal =
       active_somewhere run (Recv rank peer) rank lawful
-      (acting run.core rank (first_of_two (is_active run.core rank) _ (first_of_two (is_active run.core rank && is_just (next_receive (place run rank)) peer) _ legal))) legal
+      (acting run.core rank (and_parts (is_active run.core rank) _ (and_parts (is_active run.core rank && is_just (next_receive (place run rank)) peer) _ legal).0).0) legal
   somewhere run (Arrive rank Done) lawful legal =
-      active_somewhere run (Arrive rank Done) rank lawful (acting run.core rank (first_of_two (is_active run.core rank) _ legal)) legal
+      active_somewhere run (Arrive rank Done) rank lawful (acting run.core rank (and_parts (is_active run.core rank) _ legal).0) legal
   somewhere run (Arrive rank Broken) lawful legal =
       active_somewhere run (Arrive rank Broken) rank lawful
-      (acting run.core rank (first_of_two (is_active run.core rank) _ (first_of_two (is_active run.core rank && waits run.core rank (place run rank)) _ legal))) legal
+      (acting run.core rank (and_parts (is_active run.core rank) _ (and_parts (is_active run.core rank && waits run.core rank (place run rank)) _ legal).0).0) legal
   somewhere run (Arrive rank Memory) lawful legal = active_somewhere run (Arrive rank Memory) rank lawful (acting run.core rank legal) legal
   somewhere run (Leave rank) lawful legal = (Past, (tt, legal))
   somewhere run (Die rank) lawful legal = (Past, (tt, legal))
 
   pub legal_alone : (run : Run L T) (event : Event) → is_legal_in m setup run event ≡ true → is_legal run.core event (place run (actor event)) ≡ true
   unfolding is_legal_in
-  legal_alone run event legal = first_of_two (is_legal run.core event (place run (actor event))) _ legal
+  legal_alone run event legal = (and_parts (is_legal run.core event (place run (actor event))) _ legal).0
 
   -- the fields of a world
   module _ (core : State) (waiting : Waiting M) (noted : Noted) (parcels : List (ℕ × T)) (restores : ℕ)

@@ -1,6 +1,7 @@
 -- The whole state of a run, as its journal tells it.
 use Rattle.std.specs.Prelude.{ℕ, Bool, true, false, ◌&&◌, not, ◌==◌, if◌then◌else◌, List, [], ◌∷◌, ◌++◌, map, filter, slice_index_or, slice_set, Option, Some, None}
 use Rattle.std.specs.List.{range_with_len}
+use Rattle.bf_core.specs.Places.{round_of}
 use Rattle.bf_program.specs.declared.epoch.Epoch.{Epoch}
 use Rattle.bf_program.specs.Meanings.{Meanings}
 use Rattle.bf_program.specs.Lockstep.{lockstep}
@@ -30,11 +31,6 @@ pub record Run (L T : Type 0) : Type 0 where
 -- where a rank stands
 abbrev pub place : {L T : Type 0} → Run L T → ℕ → Place
 place run rank = slice_index_or run.places rank Past
-
--- the round of a place
-abbrev pub round_of : Place → ℕ
-round_of (Rounds round sent received peers) = round
-round_of Past = 0
 
 module _ {S L M T R : Type 0} (m : Meanings S L M T R) (setup : S) where
   -- the places at which the ranks begin an epoch

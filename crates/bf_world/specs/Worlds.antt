@@ -11,7 +11,7 @@ use Rattle.bf_core.specs.declared.event.How.TheVariants as hows
 use Rattle.bf_core.specs.declared.standing.Stage.{Stage}
 use Rattle.bf_core.specs.declared.standing.Stage.TheVariants.{Running, Arrived, Leaving, Ended, Dead, Gone}
 use Rattle.bf_core.specs.Stages.{is_arrived, is_leaving, wants_memory}
-use Rattle.bf_core.specs.Places.{next_send, next_receive, is_past}
+use Rattle.bf_core.specs.Places.{next_send, next_receive, is_past, round_of}
 use Rattle.bf_core.specs.States.{State, stage, is_active, has_dead_member, is_short_of_memory}
 use Rattle.bf_core.specs.Legal.{actor}
 use Rattle.bf_core.specs.Next.{may_decide, is_ripe, happened, decision}
@@ -25,7 +25,7 @@ use Rattle.bf_world.specs.Course.{message_at}
 use Rattle.bf_world.specs.Journals.{Noted}
 use Rattle.bf_world.specs.Messages.{AreQueuesOf}
 use Rattle.bf_world.specs.Queues.{Waiting, messages}
-use Rattle.bf_world.specs.Runs.{Run, place, round_of, will_be_filled, parcel_of, next_run, opening_run, run_after, is_journal}
+use Rattle.bf_world.specs.Runs.{Run, place, will_be_filled, parcel_of, next_run, opening_run, run_after, is_journal}
 
 -- what contracts see of a world
 pub record View (S M T : Type 0) : Type 0 where

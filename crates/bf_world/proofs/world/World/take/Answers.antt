@@ -1,7 +1,7 @@
 use Rattle.std.proofs.Common.{◌≡◌, ◌<◌, arith, length, ◌∷◌, drop, sym}
 use Rattle.std.specs.Prelude.{Some, slice_get}
+use Rattle.bf_core.specs.Places.{round_of}
 use Rattle.bf_world.specs.Queues.{messages}
-use Rattle.bf_world.specs.Runs.{round_of}
 use Rattle.bf_world.specs.Worlds.{ReceivesNext, place_after, message_after}
 use Rattle.bf_world.proofs.WorldLemmas.{legal_somewhere, events_counted, queues_counted, room_after, noted_after}
 use Rattle.bf_world.proofs.CallLemmas.{of_fields, as_seen, receives_between, receives_legal, front_got, world_received}
