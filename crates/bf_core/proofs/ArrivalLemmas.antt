@@ -47,14 +47,6 @@ not_going Leaving still = absurd (cc)
 not_going Ended still = absurd (cc)
 not_going Gone still = absurd (cc)
 
-going_unended : (s : Stage) → goes_on s ≡ true → has_ended s ≡ false
-going_unended Running _ = refl
-going_unended (Arrived how filled) _ = refl
-going_unended Leaving _ = refl
-going_unended Ended still = absurd (cc)
-going_unended Dead _ = refl
-going_unended Gone _ = refl
-
 -- a dead member stays one in an event, before any decision
 dead_stays : (state : State) (event : Event) (filled : Bool) → IsStep state event filled
     → length (happened state event filled).standings ≡ length state.standings

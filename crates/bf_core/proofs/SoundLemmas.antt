@@ -44,11 +44,6 @@ pub record IsSound (state : State) : Type 0 where
   -- while a run goes on, the members are the ranks that are not gone
   pub members : state.outcome ≡ None → state.epoch.members ≡ filter (λ rank. not (is_gone (stage state rank))) (range_with_len 0 state.ranks)
 
--- two cases of a Bool
-pub by_cases : (b : Bool) → (b ≡ true) ⊎ (b ≡ false)
-by_cases true = inl refl
-by_cases false = inr refl
-
 -- a test of a stage that is known
 known : (test : Stage → Bool) (s t : Stage) (b : Bool) → s ≡ t → test t ≡ b → test s ≡ b
 known test s t b same passes = ap test same ∙ passes

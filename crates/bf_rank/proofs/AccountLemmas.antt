@@ -658,11 +658,6 @@ module _ {S L M T R : Type 0} (m : Meanings S L M T R) (good : S → Epoch → �
   turn_taken view stands.Failed moved = (goes_where m good setup (sight (run_after m setup new) view.rank) (kept (viewed view.rank view.local view.epoch stands.Failed)) stands.Failed moved.at.agrees (λ is. absurd (cc)), (moved.event, (moved.more, moved.turn)))
   turn_taken view stands.Ended moved = (moved.at.agrees, inr (moved.event, (moved.more, moved.turn)))
 
-  pub turn_over : (view : RankView L) → view.stand ≡ stands.Ended → IsAt m good setup old view → new ≡ old → TookTurn m good setup old new view.rank turns.Ended
-  turn_over view ends at same =
-      let P : Stand → Type 0 = Agrees m good setup (sight (run_after m setup old) view.rank) view in
-      (ap (λ j. goes_on (stage (run_after m setup j).core view.rank)) same ∙ subst P ends at.agrees, inl same)
-
   -- a turn that added an event
   pub record IsMade (rank : ℕ) (after : RankView L) (result : Turn) : Type 0 where
     pub its : after.rank ≡ rank

@@ -89,16 +89,6 @@ module _ {S L M T R : Type 0} (m : Meanings S L M T R) (good : S → Epoch → �
     pub same_place : place_from m setup seen.epoch seen.start rank (m.rounds setup seen.epoch - from) from
         ≡ place_from m setup seen.epoch seen.start rank (m.rounds setup seen.epoch - round) round
 
-  pub goes_none : (local : L) → Begins m good setup seen epoch rank from local → GoesOn from local
-  goes_none local begins = record { begins = begins; same_place = refl }
-
-  pub goes_more : (round : ℕ) (local after : L) → GoesOn round local → Follows m good setup seen epoch rank round after None → GoesOn (round + 1) after
-  goes_more round local after goes follows = record { begins = follows.0; same_place = goes.same_place ∙ follows.1 }
-
-  pub goes_stop : (round : ℕ) (local after : L) (peers : List ℕ) → GoesOn round local → Follows m good setup seen epoch rank round after (Some peers)
-      → HasPassed m good setup seen rank from (Rounds round 0 0 peers) after
-  goes_stop round local after peers goes follows = record { at_is = follows.at_is ∙ sym goes.same_place; here = follows.here }
-
   pub goes_past : (round : ℕ) (local : L) → GoesOn round local → m.rounds setup epoch ≤ round → HasPassed m good setup seen rank from Past local
   unfolding place_from
   goes_past round local goes all =
@@ -120,18 +110,6 @@ module _ {S L M T R : Type 0} (m : Meanings S L M T R) (good : S → Epoch → �
   pub end_finish : IsFinishing m good setup epoch round local
   end_finish = let P : Epoch → Type 0 = λ e. IsFinishing m good setup e round local in subst P (sym ends.same) ends.point
 
-  pub end_fits : (rounds : ℕ) → rounds ≡ m.rounds setup epoch → round < rounds
-  end_fits rounds are =
-      let e : m.rounds setup epoch ≡ m.rounds setup seen.epoch = ap (m.rounds setup) ends.same in
-      let w : round < m.rounds setup seen.epoch = ends.within in
-      omega (arith, are, e, w)
-
-  pub end_begins : (after : L) → after ≡ m.finish setup local epoch round → Begins m good setup seen epoch rank (round + 1) after
-  end_begins after finished = record {
-    same = ends.same;
-    is_good = ends.is_good;
-    within = let w : round < m.rounds setup seen.epoch = ends.within in omega (arith, w);
-    its = ends.after ∙ ap Some (sym (finished ∙ ap (λ e. m.finish setup local e round) ends.same));
   }
 
 module _ {S L M T R : Type 0} (m : Meanings S L M T R) (good : S → Epoch → ℕ → List L → Type 0) (setup : S) (goods : KeepsGood m good setup) (peers_kept : KeepsPeers m good setup)
