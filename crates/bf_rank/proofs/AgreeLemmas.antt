@@ -247,6 +247,7 @@ module _ {S L M T R : Type 0} (m : Meanings S L M T R) (good : S → Epoch → �
           (commit_when_done (happened run.core event (will_be_filled m setup run (actor event))))
           (restore_fits (happened run.core event (will_be_filled m setup run (actor event))))
           agrees
+
       by_event : (b : Bool) → Agrees m good setup (sight (if b then run_settled m setup (run_happened m setup run event) else run_happened m setup run event) view.rank) view stand
       by_event true = by_ripe (is_ripe (happened run.core event (will_be_filled m setup run (actor event)))) refl
       by_event false = agrees

@@ -1,8 +1,13 @@
 //! One rank of a run: its local, and its turns on a world.
 #![tactic(auto)]
 
+mod giving;
+mod leaving;
 mod rank;
+mod receiving;
+mod rounds;
 mod stand;
+mod steps;
 
 pub use rank::Rank;
 pub use stand::{Stand, Turn};

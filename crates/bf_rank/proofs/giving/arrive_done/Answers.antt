@@ -3,7 +3,7 @@ use Rattle.bf_world.specs.declared.answers.Arrival.TheVariants as arrivals
 use Rattle.bf_world.specs.Worlds.{ArrivesAs}
 use Rattle.bf_world.proofs.WorldLemmas.{where_ok}
 use Rattle.bf_rank.proofs.AccountLemmas.{of_setup, at_place, arrives_as, has_done}
-use Rattle.bf_rank.proofs.rank.arrive_done.Goals as goal
+use Rattle.bf_rank.proofs.giving.arrive_done.Goals as goal
 
 pub arrive-requires-clause-its : goal.arrive-requires-clause-its
 arrive-requires-clause-its g c =

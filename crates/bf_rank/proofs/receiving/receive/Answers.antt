@@ -5,7 +5,7 @@ use Rattle.bf_core.specs.States.{has_dead_member}
 use Rattle.bf_rank.specs.Ranks.{sight}
 use Rattle.bf_rank.proofs.AccountLemmas.{of_setup, queues_of_setup, at_place, receives_next, takes_next, has_received, has_broken, nothing_offered, receives_some, not_ok}
 use Rattle.bf_rank.proofs.PassLemmas.{where_ok, comes_at}
-use Rattle.bf_rank.proofs.rank.receive.Goals as goal
+use Rattle.bf_rank.proofs.receiving.receive.Goals as goal
 
 pub recv-requires : goal.recv-requires
 recv-requires g c =

@@ -1,7 +1,7 @@
 use Rattle.bf_rank.specs.Ranks.{sight}
 use Rattle.bf_world.specs.Runs.{run_after}
 use Rattle.bf_rank.proofs.AccountLemmas.{of_setup, opens, opened, opens_sending}
-use Rattle.bf_rank.proofs.rank.open.Goals as goal
+use Rattle.bf_rank.proofs.steps.open.Goals as goal
 
 pub pass_rounds-requires : goal.pass_rounds-requires
 pass_rounds-requires g c =

@@ -1,6 +1,6 @@
 use Rattle.std.proofs.Common.{arith}
 use Rattle.bf_rank.proofs.PassLemmas.{asks_peers, may_finish, has_peers, has_none}
-use Rattle.bf_rank.proofs.rank.pass_round.Goals as goal
+use Rattle.bf_rank.proofs.rounds.pass_round.Goals as goal
 
 pub peers-peers-requires : goal.peers-peers-requires
 peers-peers-requires g c =

@@ -1,6 +1,6 @@
 use Rattle.bf_rank.proofs.PassLemmas.{goes_past}
 use Rattle.std.proofs.Common.{arith}
-use Rattle.bf_rank.proofs.rank.pass_rounds.Goals as goal
+use Rattle.bf_rank.proofs.rounds.pass_rounds.Goals as goal
 
 pub returns : goal.returns
 returns g c = λ seen rank begins.

@@ -2,7 +2,7 @@ use Rattle.std.proofs.Common.{◌+◌, arith}
 use Rattle.bf_core.specs.declared.place.Place.TheVariants.{Rounds}
 use Rattle.bf_rank.specs.declared.stand.Stand.TheVariants as stands
 use Rattle.bf_rank.proofs.PassLemmas.{may_receive, take_more, take_stays, take_ends, take_passes, where_ok, in_round, comes_from}
-use Rattle.bf_rank.proofs.rank.take.Goals as goal
+use Rattle.bf_rank.proofs.receiving.take.Goals as goal
 
 pub take-requires : goal.take-requires
 take-requires g c =

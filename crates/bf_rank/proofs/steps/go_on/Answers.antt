@@ -1,6 +1,6 @@
 use Rattle.std.proofs.Common.{◌∙◌, refl, sym}
 use Rattle.bf_rank.proofs.AccountLemmas.{of_setup, at_place, gives_some, stepped}
-use Rattle.bf_rank.proofs.rank.go_on.Goals as goal
+use Rattle.bf_rank.proofs.steps.go_on.Goals as goal
 
 pub returns-clause-stepped : goal.returns-clause-stepped
 returns-clause-stepped g c =

@@ -2,7 +2,7 @@ use Rattle.std.proofs.Common.{◌-◌, ℕ}
 use Rattle.bf_rank.specs.Ranks.{Sight}
 use Rattle.bf_rank.specs.Steps.{Begins}
 use Rattle.bf_rank.proofs.PassLemmas.{GoesOn}
-use Rattle.bf_rank.proofs.rank.pass_rounds.Given as goal
+use Rattle.bf_rank.proofs.rounds.pass_rounds.Given as goal
 
 abbrev pub invariant-loop-round : goal.invariant-loop-round
 invariant-loop-round g l = record {

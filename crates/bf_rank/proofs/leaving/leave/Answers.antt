@@ -5,7 +5,7 @@ use Rattle.bf_world.specs.Runs.{run_after}
 use Rattle.bf_world.specs.Worlds.{core_after, HasLeft}
 use Rattle.bf_rank.specs.Ranks.{sight}
 use Rattle.bf_rank.proofs.AccountLemmas.{of_setup, may_leave, is_beginning, has_ended, has_begun}
-use Rattle.bf_rank.proofs.rank.leave.Goals as goal
+use Rattle.bf_rank.proofs.leaving.leave.Goals as goal
 
 pub leave-requires-clause-arrived : goal.leave-requires-clause-arrived
 leave-requires-clause-arrived g c =

@@ -5,7 +5,7 @@ use Rattle.bf_core.specs.Places.{next_receive}
 use Rattle.bf_world.specs.Worlds.{SendsNext}
 use Rattle.bf_world.proofs.WorldLemmas.{where_ok}
 use Rattle.bf_rank.proofs.AccountLemmas.{of_setup, at_rounds, sends_some, may_out, sends_next, has_sent}
-use Rattle.bf_rank.proofs.rank.send.Goals as goal
+use Rattle.bf_rank.proofs.giving.send.Goals as goal
 
 pub unreachable-requires-in_default-at : goal.unreachable-requires-in_default-at
 unreachable-requires-in_default-at g c =

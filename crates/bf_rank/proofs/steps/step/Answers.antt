@@ -2,7 +2,7 @@ use Rattle.std.proofs.Common.{◌≡◌, ◌∙◌, refl, sym, subst}
 use Rattle.bf_rank.specs.declared.stand.Stand.TheVariants as stands
 use Rattle.bf_rank.specs.Steps.{MayStep, viewed}
 use Rattle.bf_rank.proofs.AccountLemmas.{of_setup, opens_some, stepped}
-use Rattle.bf_rank.proofs.rank.step.Goals as goal
+use Rattle.bf_rank.proofs.steps.step.Goals as goal
 
 pub returns-in-Opening : goal.returns-in-Opening
 returns-in-Opening g c =
