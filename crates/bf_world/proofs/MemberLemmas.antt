@@ -48,6 +48,10 @@ apart_range p k (suc n) = by_first (p k) (apart_range p (k + 1) n)
     by_first true rest = (not_above p k n, rest)
     by_first false rest = rest
 
+abbrev pub test_of : {L : Type 0} → (L → Bool) → Option L → Bool
+test_of test (Some local) = test local
+test_of test None = false
+
 -- the members whose local passes a test, told by looking each up
 pub keys_filtered : {L : Type 0} (test : L → Bool) (members : List ℕ) (locals : List L) → Apart members → length locals ≡ length members
     → filter (λ rank. test_of test (local_of members locals rank)) members ≡ keys_of (filter (λ seat. test seat.1) (zip members locals))

@@ -1,7 +1,6 @@
 -- The whole state of a run, as its journal tells it.
 use Rattle.std.specs.Prelude.{ℕ, Bool, true, false, ◌&&◌, not, ◌==◌, if◌then◌else◌, List, [], ◌∷◌, ◌++◌, map, filter, slice_index_or, slice_set, Option, Some, None}
 use Rattle.std.specs.List.{range_with_len}
-use Rattle.bf_core.specs.Places.{round_of}
 use Rattle.bf_program.specs.declared.epoch.Epoch.{Epoch}
 use Rattle.bf_program.specs.Meanings.{Meanings}
 use Rattle.bf_program.specs.Lockstep.{lockstep}
@@ -11,6 +10,7 @@ use Rattle.bf_core.specs.declared.event.Event.TheVariants.{Send, Recv, Arrive, L
 use Rattle.bf_core.specs.declared.event.How.TheVariants.{Done, Broken, Memory}
 use Rattle.bf_core.specs.declared.place.Place.{Place}
 use Rattle.bf_core.specs.declared.place.Place.TheVariants.{Rounds, Past}
+use Rattle.bf_core.specs.Places.{round_of}
 use Rattle.bf_core.specs.Stages.{is_arrived, lives}
 use Rattle.bf_core.specs.States.{State, stage, opening}
 use Rattle.bf_core.specs.Legal.{actor, is_legal}
