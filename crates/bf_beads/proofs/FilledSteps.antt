@@ -5,36 +5,23 @@ use Rattle.std.specs.List.{range_with_len, list_any}
 use Rattle.std.proofs.lemmas.Bool.{cases_lt, or_right, eq-eqb}
 use Rattle.std.proofs.lemmas.Bool.Decides.{nat_tests}
 use Rattle.std.proofs.Math.Nat.{mod-eq_of_lt}
+use Rattle.std.proofs.lemmas.List.Folds.{list_any_none}
 use Rattle.std.proofs.Common.{inl, inr}
 use Rattle.bf_parts.specs.Leaves.{is_filled}
-use Rattle.bf_parts.specs.MergeLaws.{filter_alike}
-use Rattle.bf_buddy.proofs.MemberLemmas.{all_members, range_within}
+use Rattle.bf_lemmas.proofs.Lists.{filter_alike}
+use Rattle.bf_buddy.proofs.MemberLemmas.{all_members, range_any, range_within}
 use Rattle.bf_beads.specs.declared.setup.BeadSetup.{BeadSetup}
 use Rattle.bf_beads.specs.Meanings.{beads}
 use Rattle.bf_beads.specs.Row.{row, beads_at, home_in}
-
-any_in : (p : ℕ → Bool) (first count k : ℕ) → first ≤ k → k < first + count → p k ≡ true → list_any p (range_with_len first count) ≡ true
-any_in p first zero k low high passes = absurd (omega arith)
-any_in p first (suc count) k low high passes =
-    elim (cases_lt first k) [
-      | inl below ↦ or_right (p first) (list_any p (range_with_len (first + 1) count)) (any_in p (first + 1) count k (omega (arith, below)) (omega arith) passes)
-      | inr above ↦ let same : first ≡ k = omega (arith, above) in let here : p first ≡ true = ap p same ∙ passes in rw here refl
-    ]
-
-none_in : (p : ℕ → Bool) (first count : ℕ) → ((k : ℕ) → k < first + count → p k ≡ false) → list_any p (range_with_len first count) ≡ false
-none_in p first zero fails = refl
-none_in p first (suc count) fails =
-    let here : p first ≡ false = fails first (omega arith) in
-    let later : list_any p (range_with_len (first + 1) count) ≡ false = none_in p (first + 1) count (λ k below. fails k (omega (arith, below))) in
-    rw (here, later) refl
 
 -- a rank is filled that is below the number of beads
 filled_is : (count ranks rank : ℕ) → rank < ranks → is_filled (beads_at count 0) (home_in ranks) rank ≡ nat_lt rank (min count ranks)
 unfolding is_filled row
 filled_is count ranks rank below =
     elim (cases_lt rank count) [
-      | inl few ↦ any_in (λ k. k % ranks == rank) 0 count rank (omega arith) (omega (arith, few)) (eq-eqb (rank % ranks) rank (mod-eq_of_lt below)) ∙ sym (yes few)
-      | inr many ↦ none_in (λ k. k % ranks == rank) 0 count (λ k low. other k (omega (arith, low, many, below)) (omega (arith, low, many))) ∙ sym (no many)
+      | inl few ↦ range_any (λ k. k % ranks == rank) 0 count rank (omega arith) (omega (arith, few)) (eq-eqb (rank % ranks) rank (mod-eq_of_lt below)) ∙ sym (yes few)
+      | inr many ↦ list_any_none (λ k. k % ranks == rank) (range_with_len 0 count)
+          (all_members (λ k. (k % ranks == rank) ≡ false) (range_with_len 0 count) (λ k is_in. let low : k < 0 + count = range_within 0 count k is_in in other k (omega (arith, low, many, below)) (omega (arith, low, many)))) ∙ sym (no many)
     ]
   where
     yes : rank < count → nat_lt rank (min count ranks) ≡ true

@@ -6,23 +6,11 @@ use Rattle.std.proofs.lemmas.List.{map-append, append-nil}
 use Rattle.std.proofs.lemmas.List.FromFn.{filter_of_map_range_with_len_more}
 use Rattle.bf_buddy.specs.Members.{is_member}
 use Rattle.bf_parts.specs.Leaves.{part_of}
-use Rattle.bf_buddy.proofs.MemberLemmas.{member_range}
+use Rattle.bf_buddy.proofs.MemberLemmas.{range_has}
+use Rattle.bf_lemmas.proofs.Lists.{numbers_more}
 use Rattle.bf_beads.specs.Row.{row, is_beside, link_to, links_of, value_at, bead_at, beads_at}
 
-pub rank_in : (ranks rank : ℕ) → rank < ranks → IsTrue (is_member (range_with_len 0 ranks) rank)
-rank_in ranks rank below = member_range 0 ranks rank (omega arith) (omega arith)
-
-pub ruleset opening_steps = (rank_in)
-
-map_same : (xs : List ℕ) → map (λ x. x) xs ≡ xs
-map_same [] = refl
-map_same (x ∷ xs) = ap (λ rest. x ∷ rest) (map_same xs)
-
-numbers_more : (p : ℕ → Bool) (k : ℕ) → filter p (range_with_len 0 (k + 1)) ≡ filter p (range_with_len 0 k) ++ cond (p k) (k ∷ []) []
-numbers_more p k =
-    ap (filter p) (sym (map_same (range_with_len 0 (k + 1))))
-    ∙ filter_of_map_range_with_len_more p (λ x. x) 0 k k (omega arith)
-    ∙ ap (λ ks. filter p ks ++ cond (p k) (k ∷ []) []) (map_same (range_with_len 0 k))
+pub ruleset opening_steps = (range_has)
 
 -- one more that passes, or that doesn't
 pub one_more : {X : Type 0} (f : ℕ → X) (p : ℕ → Bool) (k : ℕ) (x : X) (xs more : List X) → xs ≡ map f (filter p (range_with_len 0 k)) → p k ≡ true → x ≡ f k → more ≡ xs ++ x ∷ []

@@ -7,9 +7,9 @@ use Rattle.bf_buddy.specs.Buddy.{predecessor_of}
 use Rattle.bf_program.specs.declared.epoch.Epoch.{Epoch}
 use Rattle.bf_program.specs.Points.{IsFirst, IsRestoring}
 use Rattle.bf_parts.specs.declared.side.Side.{Side}
-use Rattle.bf_parts.specs.Bools.{eqb_swap}
+use Rattle.bf_lemmas.proofs.Tests.{eqb_swap}
 use Rattle.bf_parts.specs.Leaves.{AreAmong, part_of, side_at}
-use Rattle.bf_parts.specs.MergeLaws.{filter_alike}
+use Rattle.bf_lemmas.proofs.Lists.{filter_alike}
 use Rattle.bf_buddy.proofs.MemberLemmas.{all_members}
 use Rattle.bf_parts.specs.Sides.{gives}
 use Rattle.bf_parts.specs.SnapshotRounds.{are_paired}

@@ -4,16 +4,13 @@ use Rattle.std.specs.Prelude.{◌==◌, ◌&&◌, ◌||◌, not, filter}
 use Rattle.std.specs.List.{list_any}
 use Rattle.std.proofs.lemmas.Bool.{and_parts, and_from, or_right, eq-eqb}
 use Rattle.std.proofs.lemmas.Bool.Decides.{nat_tests}
-use Rattle.bf_parts.specs.Bools.{eqb_swap}
+use Rattle.bf_lemmas.proofs.Tests.{eqb_swap}
+use Rattle.bf_lemmas.proofs.Lists.{any_mapped}
 use Rattle.bf_parts.specs.Leaves.{part_of}
 use Rattle.bf_rounds.specs.Gathering.{AreMutual}
 use Rattle.bf_beads.specs.declared.bead.Link.{Link}
 use Rattle.bf_beads.specs.Rounds.{is_linked, is_neighbor, others_of}
 use Rattle.bf_beads.specs.Row.{row, is_beside, link_to, links_of, bead_at, beads_at}
-
-any_mapped : {X Y : Type 0} (test : Y → Bool) (f : X → Y) (xs : List X) → list_any test (map f xs) ≡ list_any (λ x. test (f x)) xs
-any_mapped test f [] = refl
-any_mapped test f (x ∷ xs) = ap (λ b. test (f x) || b) (any_mapped test f xs)
 
 any_filtered : {X : Type 0} (test p : X → Bool) (xs : List X) → list_any test (filter p xs) ≡ list_any (λ x. p x && test x) xs
 any_filtered test p [] = refl

@@ -4,13 +4,14 @@ use Rattle.std.specs.Prelude.{slice_index_or, ◌==◌, ◌&&◌, not}
 use Rattle.std.specs.List.{count_by}
 use Rattle.std.specs.List.Sorted.{IsStrictlyIncreasing}
 use Rattle.std.proofs.lemmas.Bool.{and_from, eqb-true}
+use Rattle.std.proofs.Math.Nat.{add-zero, zero-add}
 use Rattle.bf_buddy.specs.Members.{is_member}
 use Rattle.bf_buddy.specs.Buddy.{place_of, buddy_of, buddy_place}
 use Rattle.bf_buddy.proofs.BuddyLemmas.{place_found, member_found, buddy_within, buddy_at}
 use Rattle.bf_program.specs.declared.epoch.Epoch.{Epoch}
 use Rattle.bf_program.specs.Laws.{times}
 use Rattle.bf_parts.specs.Leaves.{AreAmong, part_of}
-use Rattle.bf_parts.specs.MergeLaws.{map_twice}
+use Rattle.bf_lemmas.proofs.Lists.{map_twice}
 use Rattle.bf_buddy.proofs.MemberLemmas.{member_filter}
 use Rattle.bf_parts.specs.Views.{View}
 use Rattle.bf_rounds.specs.Courses.{Course}
@@ -85,12 +86,6 @@ module _ (count : ℕ) (epoch : Epoch) (up : IsStrictlyIncreasing epoch.members)
       (links_changed (relinked_one epoch.members time) count owner gone (slice_index_or (row count) k d) (λ j. refl)))
       owned (λ k d within. to_peer _ (owned k d within))
 
-no_more : (n : ℕ) → n + 0 ≡ n
-no_more n = omega arith
-
-none_before : (a b : ℕ) → a ≡ b → a ≡ 0 + b
-none_before a b same = omega arith
-
 -- how often beads have a number
 abbrev with_number : (unit : ℕ) → List Bead → ℕ
 with_number unit beads = count_by (λ (bead : Bead). bead.number == unit) beads
@@ -107,12 +102,12 @@ hand_conserves : (count shift : ℕ) (epoch : Epoch) (world : World ℕ) (unit :
 hand_conserves count shift epoch world unit wrap of_word same members after course conserves =
     part_conserves (λ local. times pieces (pieces.of_local local) unit) (λ msg. times pieces (pieces.of_message msg) unit)
     (on_hand unit) of_word (local_of_hand count shift epoch world) (local_of_hand count shift epoch world) wrap (λ rank. 0)
-    (λ rank hand. none_before _ _ (count_numbers unit hand.items)) (λ rank hand. none_before _ _ (count_numbers unit hand.items)) same members course after conserves
+    (λ rank hand. sym (zero-add _ ∙ sym (count_numbers unit hand.items))) (λ rank hand. sym (zero-add _ ∙ sym (count_numbers unit hand.items))) same members course after conserves
 
 tell_weighs : (unit : ℕ) → Weighs (on_hand unit) (λ word. 0) (as_delivery tell_play)
 tell_weighs unit = record {
-  out = λ hand to. no_more (on_hand unit hand);
-  hear = λ hand peer msg. sym (no_more (on_hand unit hand));
+  out = λ hand to. add-zero (on_hand unit hand);
+  hear = λ hand peer msg. sym (add-zero (on_hand unit hand));
   finish = λ hand. refl;
 }
 
@@ -192,7 +187,7 @@ module _ (setup : BeadSetup) (epoch : Epoch) where
     conserves = λ world unit placed.
         part_conserves (λ local. times pieces (pieces.of_local local) unit) (λ msg. times pieces (pieces.of_message msg) unit)
         (λ (view : View Bead). with_number unit view.items) (λ word. 0) (λ rank view. local_with view []) (λ rank view. local_with view []) Copied (λ rank. 0)
-        (λ rank view. none_before _ _ (count_numbers unit view.items)) (λ rank view. none_before _ _ (count_numbers unit view.items)) (λ word. refl)
+        (λ rank view. sym (zero-add _ ∙ sym (count_numbers unit view.items))) (λ rank view. sym (zero-add _ ∙ sym (count_numbers unit view.items))) (λ word. refl)
         epoch.members (snapshot_course (sees_paired setup.shift) setup.shift epoch (last_trio n epoch) world.owner world.home) _
         (weighs_conserves (λ (view : View Bead). with_number unit view.items) (λ word. 0) (as_delivery (snapshot_play (sees_paired setup.shift) setup.shift epoch)) (snapshot_weighs (sees_paired setup.shift) setup.shift epoch (λ (bead : Bead). bead.number == unit))
         epoch.members (snapshot_course (sees_paired setup.shift) setup.shift epoch (last_trio n epoch) world.owner world.home) _ _

@@ -6,11 +6,11 @@ use Rattle.std.proofs.lemmas.Bool.Decides.{nat_tests}
 use Rattle.std.proofs.lemmas.List.Elements.{All-map, All-filter}
 use Rattle.std.proofs.lemmas.List.Kept.{AllPairs-from_increasing}
 use Rattle.bf_buddy.specs.Members.{is_member}
-use Rattle.bf_parts.specs.Bools.{eqb_swap}
+use Rattle.bf_lemmas.proofs.Tests.{eqb_swap}
 use Rattle.bf_parts.specs.Counts.{count_append, member_once}
 use Rattle.bf_parts.specs.CoverLaws.{count_mapped}
 use Rattle.bf_parts.specs.Leaves.{AreLeaves, AreAmong, part_of}
-use Rattle.bf_parts.specs.MergeLaws.{map_twice}
+use Rattle.bf_lemmas.proofs.Lists.{map_twice}
 use Rattle.bf_buddy.proofs.MemberLemmas.{range_rises, range_has}
 use Rattle.bf_beads.specs.declared.bead.Bead.{Bead}
 use Rattle.bf_beads.specs.declared.bead.Link.{Link}

@@ -10,6 +10,7 @@ use Rattle.std.proofs.lemmas.List.Elements.{All-contains}
 use Rattle.std.proofs.lemmas.List.Elements.{All-head, All-tail, All-weaker}
 use Rattle.std.proofs.lemmas.List.FromFn.{length-range_with_len, get_or-range_with_len, fill_by_all}
 use Rattle.std.proofs.lemmas.List.Sorted.{All-permutation, sum_by-IsPermutation}
+use Rattle.std.proofs.lemmas.Option.{same_Some}
 use Rattle.bf_id.specs.Shape.{root_count}
 use Rattle.bf_id.specs.Id.{BlockId, root_id, id_eq}
 use Rattle.bf_id.proofs.Boxes.{id_eq_is_equal}
@@ -23,7 +24,7 @@ use Rattle.bf_case.proofs.RootModel.{roots_of_model, cells_of_root}
 use Rattle.bf_case.proofs.RootSteps.{roots_are}
 use Rattle.bf_block.specs.Block.{BlockValue, leaf_of}
 use Rattle.bf_block.specs.Runs.{never_refines, CanRun}
-use Rattle.bf_parts.specs.Bools.{iff_same}
+use Rattle.bf_lemmas.proofs.Tests.{same_tests}
 use Rattle.bf_parts.specs.Counts.{once, count_cons}
 use Rattle.bf_forest.specs.Leaves.{times_among, AreLeaves}
 use Rattle.bf_forest.specs.StepLaws.{root_of_leaf}
@@ -67,7 +68,7 @@ key_found {I = I} key (item ∷ items) k n some = at (key_found key items k n) (
 
 -- a root's id is told by its number
 root_test : (i : BlockId) (k : ℕ) → i ≡ root_id i.root → id_eq i (root_id k) ≡ (i.root == k)
-root_test i k root = iff_same (id_eq i (root_id k)) (i.root == k)
+root_test i k root = same_tests (id_eq i (root_id k)) (i.root == k)
     (λ passed. eq-eqb i.root k (ap (λ (j : BlockId). j.root) ((id_eq_is_equal i (root_id k)).0 passed)))
     (λ same. (id_eq_is_equal i (root_id k)).1 (root ∙ ap root_id (eqb-true i.root k same)))
 
@@ -160,9 +161,6 @@ stretch_is first (suc n) (x ∷ xs) pairs each =
         let both : once (first == k) + times_in xs k ≡ once (first == k) + once (is_in (first + 1) n k) =
         ap (λ y. once (y == k) + times_in xs k) (sym same) ∙ counted k ∙ rest_of first n k in
         omega (arith, both)
-
-some_grid : (g h : Grid) → Some g ≡ Some h → g ≡ h
-some_grid g h same = cc
 
 -- the roots of blocks are counted as the blocks are
 counted_roots : (blocks : List BlockValue) (k : ℕ) → times_in (map (λ (b : BlockValue). b.id.root) blocks) k ≡ held (λ (b : BlockValue). b.id.root) blocks k
@@ -257,5 +255,5 @@ module _ (c : Case) (time : ℕ) (runs : CanRun c) where
           let root : b.id.root ≡ k = sym found.3 ∙ ap (λ xs. get_or xs k 0) all_roots ∙ (let e = get_or-range_with_len 0 (root_count c.roots) k 0 below in omega (arith, e)) in
           let id : b.id ≡ root_id k = (root_of_leaf c time b.id b.cells runs found.1).0 ∙ ap root_id root in
           let grid : b.cells ≡ grid_at (model c time) k =
-          some_grid b.cells (grid_at (model c time) k) (sym found.1 ∙ ap (cells_at (model c time)) id ∙ cells_of_root c time k runs.valid (never_refines runs) below) in
+          same_Some b.cells (grid_at (model c time) k) (sym found.1 ∙ ap (cells_at (model c time)) id ∙ cells_of_root c time k runs.valid (never_refines runs) below) in
           found.2 ∙ (λ j. (id j, grid j))

@@ -10,6 +10,7 @@ use Rattle.bf_case.specs.declared.case.Case.{Case}
 use Rattle.bf_case.specs.Case.{first_rank_of}
 use Rattle.bf_block.specs.Block.{BlockValue, initial_block}
 use Rattle.bf_buddy.proofs.MemberLemmas.{range_has, range_within}
+use Rattle.bf_lemmas.proofs.Lists.{numbers_more, same_pairs}
 use Rattle.bf_forest.specs.declared.local.ForestLocal.{ForestLocal}
 use Rattle.bf_forest.specs.Meanings.{first_blocks, opened, unfilled}
 
@@ -17,21 +18,12 @@ use Rattle.bf_forest.specs.Meanings.{first_blocks, opened, unfilled}
 abbrev pub roots_at : Case → (rank root : ℕ) → List BlockValue
 roots_at c rank root = map (initial_block c) (filter (λ r. first_rank_of c r == rank) (range_with_len 0 root))
 
-more_of : (test : ℕ → Bool) (n : ℕ) → filter test (range_with_len 0 (n + 1)) ≡ filter test (range_with_len 0 n) ++ cond (test n) (n ∷ []) []
-more_of test n =
-    ap (filter test) (sym (mapped (range_with_len 0 (n + 1)))) ∙ filter_of_map_range_with_len_more test (λ r. r) 0 n n (omega arith)
-    ∙ ap (λ l. filter test l ++ cond (test n) (n ∷ []) []) (mapped (range_with_len 0 n))
-  where
-    mapped : (l : List ℕ) → map (λ r. r) l ≡ l
-    mapped [] = refl
-    mapped (x ∷ l) = ap (λ m. x ∷ m) (mapped l)
-
 pub root_taken : (c : Case) (rank root first : ℕ) (blocks : List BlockValue) (b : BlockValue) → first ≡ first_rank_of c root → first ≡ rank → b ≡ initial_block c root
     → blocks ≡ roots_at c rank root → blocks ++ b ∷ [] ≡ roots_at c rank (root + 1)
 root_taken c rank root first blocks b is here made before =
     let test : (first_rank_of c root == rank) ≡ true = let same : first_rank_of c root ≡ rank = sym is ∙ here in grind (arith, nat_tests) in
     ap (λ l. l ++ b ∷ []) before ∙ ap (λ (v : BlockValue). roots_at c rank root ++ v ∷ []) made
-    ∙ sym (ap (map (initial_block c)) (more_of (λ r. first_rank_of c r == rank) root ∙ ap (λ t. filter (λ r. first_rank_of c r == rank) (range_with_len 0 root) ++ cond t (root ∷ []) []) test)
+    ∙ sym (ap (map (initial_block c)) (numbers_more (λ r. first_rank_of c r == rank) root ∙ ap (λ t. filter (λ r. first_rank_of c r == rank) (range_with_len 0 root) ++ cond t (root ∷ []) []) test)
     ∙ map-append (initial_block c) (filter (λ r. first_rank_of c r == rank) (range_with_len 0 root)) (root ∷ []))
 
 pub root_passed : (c : Case) (rank root first : ℕ) (blocks : List BlockValue) → first ≡ first_rank_of c root → first ≢ rank
@@ -39,7 +31,7 @@ pub root_passed : (c : Case) (rank root first : ℕ) (blocks : List BlockValue) 
 root_passed c rank root first blocks is other before =
     let test : (first_rank_of c root == rank) ≡ false = let differ : first_rank_of c root ≢ rank = λ same. other (is ∙ same) in grind (arith, nat_tests) in
     before
-    ∙ sym (ap (map (initial_block c)) (more_of (λ r. first_rank_of c r == rank) root ∙ ap (λ t. filter (λ r. first_rank_of c r == rank) (range_with_len 0 root) ++ cond t (root ∷ []) []) test
+    ∙ sym (ap (map (initial_block c)) (numbers_more (λ r. first_rank_of c r == rank) root ∙ ap (λ t. filter (λ r. first_rank_of c r == rank) (range_with_len 0 root) ++ cond t (root ∷ []) []) test
     ∙ append-nil (filter (λ r. first_rank_of c r == rank) (range_with_len 0 root))))
 
 -- one more of a list by its numbers
@@ -47,14 +39,11 @@ pub next_made : {X : Type 0} (f : ℕ → X) (n : ℕ) (made : List X) (x : X) �
 next_made {X = X} f n made x before is =
     ap (λ l. l ++ x ∷ []) before ∙ ap (λ (y : X). map f (range_with_len 0 n) ++ y ∷ []) is ∙ sym (map-range_with_len_more f 0 n n (omega arith))
 
--- ranks of a run are members at the opening
-pub rank_in : (ranks rank : ℕ) → rank < ranks → IsTrue (is_member (range_with_len 0 ranks) rank)
-rank_in ranks rank below = range_has ranks rank below
-
 pub rank_below : (ranks rank : ℕ) → IsTrue (is_member (range_with_len 0 ranks) rank) → rank < ranks
 rank_below ranks rank is_in = let below : rank < 0 + ranks = range_within 0 ranks rank is_in in omega arith
 
-pub ruleset opening_steps = (rank_in, rank_below)
+-- ranks of a run are members at the opening
+pub ruleset opening_steps = (range_has, rank_below)
 
 -- the list that a rank's place has
 pub first_at : (c : Case) (firsts : List (List BlockValue)) (rank : ℕ) (d : List BlockValue) → firsts ≡ map (first_blocks c) (range_with_len 0 c.ranks) → rank < c.ranks
@@ -73,10 +62,6 @@ filled_by : (c : Case) (ranks : List ℕ) → map with_blocks (zip (map (unfille
 unfolding opened
 filled_by c [] = refl
 filled_by c (rank ∷ ranks) = ap (λ l. opened c rank ∷ l) (filled_by c ranks)
-
-same_pairs : {A B : Type 0} (pairs : List (A × B)) → map (λ p. (p.0, p.1)) pairs ≡ pairs
-same_pairs [] = refl
-same_pairs (p ∷ pairs) = ap (λ l. p ∷ l) (same_pairs pairs)
 
 pub all_filled : (c : Case) (bare_locals : List ForestLocal) (firsts : List (List BlockValue)) (pairs : List (ForestLocal × List BlockValue))
     → bare_locals ≡ map (unfilled c) (range_with_len 0 c.ranks) → firsts ≡ map (first_blocks c) (range_with_len 0 c.ranks)

@@ -4,6 +4,7 @@ use Rattle.std.proofs.Math.Seq.{take-append_seam}
 use Rattle.std.proofs.lemmas.List.{length-map, length-append, get_or-map, map-append}
 use Rattle.std.proofs.lemmas.Simd.{map-map}
 use Rattle.std.proofs.lemmas.List.Elements.{All-append, All-get_or, All-head, All-map, All-tail, All-take, All-weaker, at_from_Contains}
+use Rattle.bf_lemmas.proofs.Lists.{map_each}
 use Rattle.bf_id.specs.Id.{root_id}
 use Rattle.bf_id.specs.Shape.{root_count}
 use Rattle.bf_cells.specs.Grid.{grid_with}
@@ -34,11 +35,6 @@ all_first P xs ys each = subst (All P) (take-append_seam xs ys) (All-take P (len
 all_later : (P : BlockValue → Type 0) (xs ys : List BlockValue) → All P (xs ++ ys) → All P ys
 all_later P [] ys each = each
 all_later P (x ∷ xs) ys each = all_later P xs ys (All-tail P x (xs ++ ys) each)
-
-mapped_same : (P : BlockValue → Type 0) (f g : BlockValue → BlockValue) (xs : List BlockValue) → All P xs → ((b : BlockValue) → P b → f b ≡ g b) → map f xs ≡ map g xs
-mapped_same P f g [] each same = refl
-mapped_same P f g (x ∷ xs) each same =
-    ap (λ (y : BlockValue). y ∷ map f xs) (same x (All-head P x xs each)) ∙ ap (λ (ys : List BlockValue). g x ∷ ys) (mapped_same P f g xs (All-tail P x xs each) same)
 
 -- a block of the model at a time is kept by its regrid
 can_be_kept : (c : Case) (time : ℕ) (b : BlockValue) → CanRun c → IsBlockAt c time b → CanBeKept b
@@ -167,7 +163,8 @@ module _ (c : Case) (time : ℕ) (local : ForestLocal) (runs : CanRun c) (ready 
   unfolding stepped_among
   all_stepped known blocks made count is same counted stepped =
       let whole : known.blocks.items ≡ all_blocks = same ∙ is in
-      let after : model c (time + 1) ≡ stencil c.roots c.side (gathered c (local.blocks ++ local.heard)) =
+      let stepped_map : List Leaf = stencil c.roots c.side (gathered c (local.blocks ++ local.heard)) in
+      let after : model c (time + 1) ≡ stepped_map =
       model_next c time runs.valid (never_refines runs) ∙ ap (stencil c.roots c.side) (sym (gathered_is_model c time (local.blocks ++ local.heard) runs ready.known ready.roots)) in
       stepped
       ∙ ap (λ n. map (next_block c) (take n known.blocks.items)) counted
@@ -175,9 +172,10 @@ module _ (c : Case) (time : ℕ) (local : ForestLocal) (runs : CanRun c) (ready 
       ∙ ap (λ n. map (next_block c) (take n all_blocks)) (sym (length-map local.blocks kept_block))
       ∙ ap (map (next_block c)) (take-append_seam (map kept_block local.blocks) local.heard)
       ∙ map-map (next_block c) kept_block local.blocks
-      ∙ mapped_same (IsBlockAt c time) (λ b. next_block c (kept_block b)) (advanced (stencil c.roots c.side (gathered c (local.blocks ++ local.heard)))) local.blocks
-      (all_first (IsBlockAt c time) local.blocks local.heard ready.known)
-      (λ b its. ap (λ (p : Point). advanced (model c (p.time + 1)) b) its.at ∙ ap (λ (l : List Leaf). advanced l b) after)
+      ∙ map_each (λ b. next_block c (kept_block b)) (advanced stepped_map) local.blocks
+      (All-weaker (IsBlockAt c time) (λ b. next_block c (kept_block b) ≡ advanced stepped_map b)
+      (λ b its. ap (λ (p : Point). advanced (model c (p.time + 1)) b) its.at ∙ ap (λ (l : List Leaf). advanced l b) after) local.blocks
+      (all_first (IsBlockAt c time) local.blocks local.heard ready.known))
 
 -- a local by its blocks and what it has heard
 pub same_local : (local : ForestLocal) (a b heard none : List BlockValue) → a ≡ b → heard ≡ none

@@ -2,6 +2,7 @@
 use Rattle.std.proofs.Common.{◌≡◌, ℕ, ◌+◌, ◌<◌, ◌≤◌, true, Some, List, [], ◌∷◌, ◌++◌, length, map, take, get_or, All, refl, sym, ap, subst, ◌∙◌, arith}
 use Rattle.std.proofs.lemmas.List.{take_more, get_or-take, map-append, length-take-le}
 use Rattle.std.proofs.lemmas.List.Elements.{All-contains, All-get_or}
+use Rattle.std.proofs.lemmas.Option.{same_Some}
 use Rattle.bf_id.specs.Id.{BlockId, root_id}
 use Rattle.bf_id.specs.Shape.{root_count}
 use Rattle.bf_cells.specs.Grid.{Grid}
@@ -23,7 +24,7 @@ use Rattle.bf_forest.specs.declared.known.Known.{Known}
 use Rattle.bf_forest.specs.Gathered.{cells_or, advanced}
 use Rattle.bf_forest.specs.Known.{is_known, known_grid, KnowsModel}
 use Rattle.bf_forest.specs.Ready.{IsKeptAt, next_block}
-use Rattle.bf_forest.specs.StepLaws.{some_grid, block_root}
+use Rattle.bf_forest.specs.StepLaws.{block_root}
 
 -- the model has a kept block's cells
 kept_cells : (c : Case) (time : ℕ) (b : BlockValue) → CanRun c → IsKeptAt c time b → cells_at (model c time) b.id ≡ Some b.cells
@@ -61,7 +62,7 @@ all_held c time side known b w runs knows is fits laid =
     let root = b.id.root in
     let at = kept_root c time b runs is in
     let own : known_grid known root ≡ b.cells =
-    some_grid (known_grid known root) b.cells (sym (knows.each root at.1).1 ∙ ap (cells_at (model c time)) (sym at.0) ∙ kept_cells c time b runs is) in
+    same_Some (known_grid known root) b.cells (sym (knows.each root at.1).1 ∙ ap (cells_at (model c time)) (sym at.0) ∙ kept_cells c time b runs is) in
     let walls : walls_around c.roots c.side (known_grid known) root ≡ w = ap (λ s. walls_around c.roots s (known_grid known) root) (sym fits) ∙ sym laid in
     subst (λ (k : Case). HoldSamples k.roots (map_at k b.point) b.id b.cells w) (sym is.of_case)
     (subst (λ (p : Point). HoldSamples c.roots (map_at c p) b.id b.cells w) (sym is.at)

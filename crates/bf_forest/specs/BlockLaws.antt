@@ -35,7 +35,8 @@ use Rattle.bf_block.specs.Kinds.{block_kind}
 use Rattle.bf_block.specs.Runs.{never_refines, CanRun}
 use Rattle.bf_parts.specs.Counts.{once, count_cons}
 use Rattle.bf_parts.specs.Leaves.{AreLeaves, AreAmong, part_of, is_filled}
-use Rattle.bf_parts.specs.MergeLaws.{map_twice}
+use Rattle.bf_lemmas.proofs.Lists.{All-from_Contains, any_mapped, filter_mapped, map_each, map_twice}
+use Rattle.std.proofs.lemmas.List.{get_or_default}
 use Rattle.bf_buddy.proofs.MemberLemmas.{all_members, range_within, range_has, member_filter}
 use Rattle.bf_forest.specs.Gathered.{cells_or, advanced, gathered, stepped_among}
 use Rattle.bf_forest.specs.Meanings.{first_blocks}
@@ -88,15 +89,12 @@ block_is c time i runs has =
     let found = leaf_cells c time i runs has in
     record { of_case = refl; at = refl; models = record { leaf = found.1 ∙ ap (λ o. Some (cells_or o (grid_with 0 []))) (sym found.1) } }
 
-all_ids : (P : BlockId → Type 0) (ids : List BlockId) → ((i : BlockId) → Contains ids i → P i) → All P ids
-all_ids P ids each = All-weaker (Contains ids) P each ids (All-contains_itself ids)
-
 pub part_are : (c : Case) (time : ℕ) (owner : BlockId → ℕ) (rank : ℕ) → CanRun c → All (IsBlockAt c time) (part_of (blocks_at c time) owner rank)
 unfolding part_of blocks_at
 part_are c time owner rank runs =
     All-map (IsBlockAt c time) (block_at c time) (filter (λ i. owner i == rank) (ids_of (model c time)))
     (All-filter (λ i. owner i == rank) (λ i. IsBlockAt c time (block_at c time i)) (ids_of (model c time))
-    (all_ids (λ i. IsBlockAt c time (block_at c time i)) (ids_of (model c time)) (λ i has. block_is c time i runs has)))
+    (All-from_Contains (λ i. IsBlockAt c time (block_at c time i)) (ids_of (model c time)) (λ i has. block_is c time i runs has)))
 
 -- a leaf's block is in its owner's part
 part_has : (c : Case) (time : ℕ) (owner : BlockId → ℕ) (rank : ℕ) (i : BlockId) → Contains (ids_of (model c time)) i → (owner i == rank) ≡ true
@@ -182,7 +180,7 @@ stepped_part c time known runs are has owner rank =
     ap (λ (leaves : List Leaf). map (advanced leaves) (map (block_at c time) (filter (λ i. owner i == rank) (ids_of (model c time))))) after
     ∙ advanced_all c time (filter (λ i. owner i == rank) (ids_of (model c time)))
     (All-filter (λ i. owner i == rank) (λ i. advanced (model c (time + 1)) (block_at c time i) ≡ block_at c (time + 1) i) (ids_of (model c time))
-    (all_ids (λ i. advanced (model c (time + 1)) (block_at c time i) ≡ block_at c (time + 1) i) (ids_of (model c time)) (λ i there. advanced_is c time i runs there)))
+    (All-from_Contains (λ i. advanced (model c (time + 1)) (block_at c time i) ≡ block_at c (time + 1) i) (ids_of (model c time)) (λ i there. advanced_is c time i runs there)))
     ∙ ap (λ (ids : List BlockId). map (block_at c (time + 1)) (filter (λ i. owner i == rank) ids)) (sym (ids_next c time runs))
 
 -- ONE LEAF passes a test that one place passes
@@ -201,11 +199,6 @@ count_one test (x ∷ xs) zero e within passes alone =
 count_one test (x ∷ xs) (suc k) e within passes alone =
     count_cons test x xs ∙ ap (λ b. once b + count_by test xs) (false_from_ne_true (test x) (λ also. let same : 0 ≡ suc k = alone 0 x (omega arith) also in absurd (omega arith)))
     ∙ ap (λ n. 0 + n) (count_one test xs k e (omega arith) passes (λ j d below also. let same : suc j ≡ suc k = alone (suc j) d (omega arith) also in omega arith))
-
-alike : {X : Type 0} (xs : List X) (i : ℕ) (a b : X) → i < length xs → get_or xs i a ≡ get_or xs i b
-alike [] i a b within = absurd (omega arith)
-alike (x ∷ xs) zero a b within = refl
-alike (x ∷ xs) (suc i) a b within = alike xs i a b (omega arith)
 
 -- one leaf has each unit of the domain
 pub one_holds : (c : Case) (time : ℕ) (unit : Voxel) → CanRun c → InDomain c.roots unit → count_by (λ i. holds (box_of c.roots i) unit) (ids_of (model c time)) ≡ 1
@@ -227,30 +220,13 @@ one_id c time k e runs below =
     let ids : List BlockId = ids_of (model c time) in
     count_one (λ i. id_eq i (get_or ids k e)) ids k e below ((id_eq_is_equal (get_or ids k e) (get_or ids k e)).1 refl)
     (λ j d within passes. one_place ids j k (get_or ids k e) (model_map c time runs).rising
-    (within, λ f. alike ids j f d within ∙ (id_eq_is_equal (get_or ids j d) (get_or ids k e)).0 passes) (below, λ f. alike ids k f e below))
+    (within, λ f. get_or_default ids j f d within ∙ (id_eq_is_equal (get_or ids j d) (get_or ids k e)).0 passes) (below, λ f. get_or_default ids k f e below))
 
 -- THE BEGINNING
 first_at : (c : Case) (root : ℕ) → IsValid c → root < root_count c.roots → block_at c 0 (root_id root) ≡ initial_block c root
 unfolding model
 first_at c root valid below =
     ap (λ o. record { case = c; point = before_regrid 0; id = root_id root; cells = cells_or o (grid_with 0 []) }) (cells_at-initial c root valid below)
-
-filter_mapped : {X Y : Type 0} (p : Y → Bool) (f : X → Y) (xs : List X) → filter p (map f xs) ≡ map f (filter (λ x. p (f x)) xs)
-filter_mapped p f [] = refl
-filter_mapped {X = X} {Y = Y} p f (x ∷ xs) = at (p (f x)) (filter_mapped p f xs)
-  where
-    at : (b : Bool) → filter p (map f xs) ≡ map f (filter (λ x. p (f x)) xs) → cond b (f x ∷ filter p (map f xs)) (filter p (map f xs)) ≡ map f (cond b (x ∷ filter (λ x. p (f x)) xs) (filter (λ x. p (f x)) xs))
-    at true later = ap (λ (ys : List Y). f x ∷ ys) later
-    at false later = later
-
-map_each : {X Y : Type 0} (f g : X → Y) (xs : List X) → All (λ x. f x ≡ g x) xs → map f xs ≡ map g xs
-map_each f g [] same = refl
-map_each {Y = Y} f g (x ∷ xs) same =
-    ap (λ (y : Y). y ∷ map f xs) (All-head (λ x. f x ≡ g x) x xs same) ∙ ap (λ (ys : List Y). g x ∷ ys) (map_each f g xs (All-tail (λ x. f x ≡ g x) x xs same))
-
-any_mapped : {X Y : Type 0} (test : Y → Bool) (f : X → Y) (xs : List X) → list_any test (map f xs) ≡ list_any (λ x. test (f x)) xs
-any_mapped test f [] = refl
-any_mapped test f (x ∷ xs) = ap (λ b. test (f x) || b) (any_mapped test f xs)
 
 first_ids : (c : Case) → ids_of (model c 0) ≡ map root_id (range_with_len 0 (root_count c.roots))
 unfolding model

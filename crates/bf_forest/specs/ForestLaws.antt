@@ -5,7 +5,8 @@ use Rattle.std.specs.List.{count_by, range_with_len}
 use Rattle.std.proofs.lemmas.Bool.{and_parts}
 use Rattle.std.proofs.lemmas.Bool.Decides.{nat_tests}
 use Rattle.std.proofs.lemmas.List.{append-nil}
-use Rattle.std.proofs.lemmas.List.Elements.{All-nil, All-cons, All-weaker}
+use Rattle.std.proofs.lemmas.List.Elements.{All-nil, All-cons, All-weaker, filter_agree}
+use Rattle.bf_lemmas.proofs.Lists.{map_alike}
 use Rattle.bf_buddy.specs.Buddy.{predecessor_of}
 use Rattle.bf_program.specs.declared.epoch.Epoch.{Epoch}
 use Rattle.bf_program.specs.Epochs.{target_of}
@@ -100,13 +101,6 @@ opened_is c rank valid =
     ap (λ (own : List BlockValue). local own (first_blocks c from)) (first_part c rank valid)
     ∙ ap (local (part_of (blocks_at c 0) (first_home c) rank)) (first_part c from valid)
 
-map_each : {L : Type 0} (f g : ℕ → L) (ranks : List ℕ) → ((rank : ℕ) → f rank ≡ g rank) → map f ranks ≡ map g ranks
-map_each f g [] same = refl
-map_each {L = L} f g (rank ∷ ranks) same = ap (λ (x : L). x ∷ map f ranks) (same rank) ∙ ap (λ (xs : List L). g rank ∷ xs) (map_each f g ranks same)
-
-filter_each : (p q : ℕ → Bool) (ranks : List ℕ) → ((rank : ℕ) → p rank ≡ q rank) → filter p ranks ≡ filter q ranks
-filter_each p q ranks same = ap (λ (t : ℕ → Bool). filter t ranks) (λ i rank. same rank i)
-
 pub whole_span : (setup : Setup) (epoch : Epoch) → Runs (case_of setup) epoch → epoch.time + span epoch ≡ epoch.target
 whole_span setup epoch runs =
     span_whole (case_of setup).steps (case_of setup).snapshot epoch (every_setup_runs setup).valid.scheduled.short_snapshot runs.begins runs.ends
@@ -136,8 +130,8 @@ spans setup =
       keep = λ epoch view owner rank runs goes_on. refl;
       home_of = first_home c;
       housed = first_owned c runs.valid;
-      opening = map_each (opened c) _ (range_with_len 0 c.ranks) (λ rank. opened_is c rank runs.valid);
-      laid = filter_each (starts c) (is_filled (blocks_at c 0) (first_home c)) (range_with_len 0 c.ranks) (first_filled c);
+      opening = map_alike (opened c) _ (range_with_len 0 c.ranks) (λ rank. opened_is c rank runs.valid);
+      laid = filter_agree (starts c) (is_filled (blocks_at c 0) (first_home c)) (first_filled c) (range_with_len 0 c.ranks);
     }
 
 -- the pieces are the boxes of blocks

@@ -2,6 +2,7 @@
 use Rattle.std.proofs.Common.{◌≡◌, ℕ, zero, suc, ◌+◌, Bool, true, false, List, [], ◌∷◌, ◌++◌, flat_map, map, arith, refl, sym, ap, ◌∙◌, subst}
 use Rattle.std.specs.Prelude.{◌==◌, not, Some, None, Option}
 use Rattle.std.proofs.lemmas.Bool.{eq-eqb}
+use Rattle.std.proofs.Math.Nat.{add-zero}
 use Rattle.bf_buddy.specs.Members.{without}
 use Rattle.bf_program.specs.declared.epoch.Epoch.{Epoch}
 use Rattle.bf_program.specs.Laws.{times}
@@ -11,7 +12,7 @@ use Rattle.bf_case.specs.declared.case.Case.{Case}
 use Rattle.bf_block.specs.declared.setup.Setup.{Setup}
 use Rattle.bf_block.specs.Setup.{case_of, every_setup_runs}
 use Rattle.bf_block.specs.Block.{BlockValue}
-use Rattle.bf_parts.specs.Bools.{eqb_swap}
+use Rattle.bf_lemmas.proofs.Tests.{eqb_swap}
 use Rattle.bf_parts.specs.CoverLaws.{count_mapped}
 use Rattle.bf_parts.specs.Leaves.{Leaves, AreAmong, part_of}
 use Rattle.bf_parts.specs.Spreads.{view_at}
@@ -48,9 +49,6 @@ others_mutual members = record {
 abbrev pub weight : Voxel → ForestLocal → ℕ
 weight unit local = times pieces (pieces.of_local local) unit
 
-no_more : (n : ℕ) → n + 0 ≡ n
-no_more n = omega arith
-
 heard_weight : (unit : Voxel) (local : ForestLocal) (msg : ForestMessage) → weight unit (heard_of local msg) ≡ weight unit local
 unfolding heard_of
 heard_weight unit local (StepMessage blocks) = refl
@@ -72,8 +70,8 @@ ended_weight unit Over c epoch local = refl
 
 forest_weighs : (unit : Voxel) (c : Case) (epoch : Epoch) (stage : Stage) → Weighs (weight unit) (λ msg. times pieces (pieces.of_message msg) unit) (as_delivery (play_of c epoch stage))
 forest_weighs unit c epoch stage = record {
-  out = λ local to. no_more (weight unit local);
-  hear = λ local peer msg. heard_weight unit local msg ∙ sym (no_more (weight unit local));
+  out = λ local to. add-zero (weight unit local);
+  hear = λ local peer msg. heard_weight unit local msg ∙ sym (add-zero (weight unit local));
   finish = ended_weight unit stage c epoch;
 }
 

@@ -1,6 +1,7 @@
 -- Blocks that are the model's make its map together, and a step leads to its next map.
 use Rattle.std.proofs.Common.{◌≡◌, ℕ, ◌<◌, true, false, List, [], ◌∷◌, get_or, map, Some, ◌⊎◌, inl, inr, Contains, refl, sym, ap, subst, ◌∙◌, All}
 use Rattle.std.proofs.lemmas.Bool.{cases_Bool}
+use Rattle.std.proofs.lemmas.Option.{same_Some}
 use Rattle.std.proofs.lemmas.List.Elements.{All-map, All-weaker, All-contains}
 use Rattle.std.proofs.lemmas.List.FromFn.{fill_by_all}
 use Rattle.bf_id.specs.Shape.{root_count}
@@ -22,9 +23,6 @@ use Rattle.bf_block.specs.Runs.{never_refines, CanRun}
 use Rattle.bf_block.specs.Block.{BlockValue, leaf_of, map_at}
 use Rattle.bf_forest.specs.Gathered.{cells_or, root_among, gathered}
 use Rattle.bf_forest.specs.ModelBlocks.{IsBlockAt}
-
-pub some_grid : (g h : Grid) → Some g ≡ Some h → g ≡ h
-some_grid g h same = cc
 
 -- the model has a block's cells
 pub model_cells : (c : Case) (time : ℕ) (b : BlockValue) → IsBlockAt c time b → cells_at (model c time) b.id ≡ Some b.cells
@@ -99,6 +97,6 @@ gathered_is_model c time known runs are has =
     same : (k : ℕ) → k < root_count c.roots → (get_or (model c time) k nothing).0 ≡ root_id k → get_or (model c time) k nothing ≡ root_among known k
     same k below id =
         let cells : grid_at (model c time) k ≡ (root_among known k).1 =
-        some_grid (grid_at (model c time) k) (root_among known k).1
+        same_Some (grid_at (model c time) k) (root_among known k).1
         (sym (cells_of_root c time k runs.valid (never_refines runs) below) ∙ root_cells c time known k runs are has below) in
         λ j. (id j, cells j)

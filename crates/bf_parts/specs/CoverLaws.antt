@@ -7,12 +7,13 @@ use Rattle.std.specs.List.Sorted.{IsStrictlyIncreasing}
 use Rattle.std.proofs.lemmas.Bool.{eqb-true, eqb-false, eq-eqb}
 use Rattle.std.proofs.lemmas.List.Elements.{All-head, All-tail}
 use Rattle.std.proofs.lemmas.List.Sums.{sum_by-cons}
+use Rattle.std.proofs.lemmas.List.{map-id}
 use Rattle.bf_buddy.proofs.MemberLemmas.{member_head, member_tail}
 use Rattle.bf_buddy.specs.Buddy.{predecessor_of}
 use Rattle.bf_buddy.specs.Members.{is_member}
 use Rattle.bf_program.specs.Laws.{is_holder}
 use Rattle.bf_parts.specs.declared.side.Side.{Side}
-use Rattle.bf_parts.specs.Bools.{not_zero}
+use Rattle.bf_lemmas.proofs.Tests.{not_zero}
 use Rattle.bf_parts.specs.Counts.{once, count_cons, count_append, amount_at, member_once, sum_of_both, sum_none}
 use Rattle.bf_parts.specs.Leaves.{Kind, Leaves, AreAmong, part_of, side_at}
 use Rattle.bf_parts.specs.Merges.{placed, merged, regained, heir_by}
@@ -167,10 +168,6 @@ count_told test items at amount (member ∷ members) each =
 pub parts_together : {K I : Type 0} (leaves : Leaves K I) (owner : K → ℕ) (test : I → Bool) (members : List ℕ) → IsStrictlyIncreasing members → AreAmong members leaves owner
     → count_by test (flat_map (part_of leaves owner) members) ≡ count_by (λ key. test (leaves.item owner key)) leaves.keys
 parts_together leaves owner test members up owned =
-    ap (λ ranks. count_by test (flat_map (part_of leaves owner) ranks)) (sym (map_same members))
+    ap (λ ranks. count_by test (flat_map (part_of leaves owner) ranks)) (sym (map-id members))
     ∙ count_told test (part_of leaves owner) (λ rank. rank) (λ rank. count_by test (part_of leaves owner rank)) members (λ rank is_in. refl)
     ∙ parts_counted leaves owner test members up owned
-  where
-    map_same : (ranks : List ℕ) → map (λ rank. rank) ranks ≡ ranks
-    map_same [] = refl
-    map_same (rank ∷ ranks) = ap (λ rest. rank ∷ rest) (map_same ranks)

@@ -4,7 +4,6 @@ pub mod Views
 pub mod Merges
 pub mod Spreads
 pub mod SnapshotRounds
-pub mod Bools
 pub mod Counts
 pub mod SideLaws
 pub mod MergeLaws

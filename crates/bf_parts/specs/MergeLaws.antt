@@ -14,16 +14,6 @@ first_pairs R k ks pairs = λ j d within. pairs 0 (suc j) d (omega arith) (omega
 pub rest_pairs : {K : Type 0} (R : K → K → Type 0) (k : K) (ks : List K) → AllPairs R (k ∷ ks) → AllPairs R ks
 rest_pairs R k ks pairs = λ i j d below within. pairs (suc i) (suc j) d (omega arith) (omega arith)
 
-pub map_twice : {A B C : Type 0} (f : B → C) (g : A → B) (h : A → C) → ((x : A) → f (g x) ≡ h x) → (xs : List A) → map f (map g xs) ≡ map h xs
-map_twice f g h same [] = refl
-map_twice f g h same (x ∷ xs) = ap (λ y. y ∷ map f (map g xs)) (same x) ∙ ap (λ ys. h x ∷ ys) (map_twice f g h same xs)
-
-pub filter_alike : {K : Type 0} (P : K → Type 0) (p q : K → Bool) → ((k : K) → P k → p k ≡ q k) → (ks : List K) → All P ks → filter p ks ≡ filter q ks
-filter_alike P p q same [] all = refl
-filter_alike P p q same (k ∷ ks) all =
-    ap (λ b. cond b (k ∷ filter p ks) (filter p ks)) (same k (All-head P k ks all))
-    ∙ ap (λ rest. cond (q k) (k ∷ rest) rest) (filter_alike P p q same ks (All-tail P k ks all))
-
 module _ {I : Type 0} (first : I → I → Bool) where
   -- an item that comes before all others
   placed_first : (x : I) (rest : List I → List I) (ys : List I) → All (λ y. first x y ≡ true) ys → placed first x rest ys ≡ x ∷ rest ys

@@ -6,10 +6,11 @@ use Rattle.std.specs.List.{fold}
 use Rattle.std.proofs.lemmas.Bool.{eqb-true, and_parts}
 use Rattle.std.proofs.lemmas.List.Elements.{filter_agree}
 use Rattle.bf_buddy.specs.Members.{is_member}
-use Rattle.bf_parts.specs.Bools.{eqb_swap}
+use Rattle.bf_lemmas.proofs.Tests.{eqb_swap}
 use Rattle.bf_parts.specs.Leaves.{Kind, Leaves, AreLeaves, AreAmong, part_of}
 use Rattle.bf_parts.specs.Merges.{merged}
-use Rattle.bf_parts.specs.MergeLaws.{Precedes, merged_is, filter_alike}
+use Rattle.bf_lemmas.proofs.Lists.{filter_alike}
+use Rattle.bf_parts.specs.MergeLaws.{Precedes, merged_is}
 
 -- no rank twice
 abbrev pub AreApart : List ℕ → Type 0

@@ -12,7 +12,8 @@ use Rattle.bf_parts.specs.SideLaws.{gives_is, heir_test}
 use Rattle.bf_parts.specs.Sides.{gives}
 use Rattle.bf_parts.specs.Leaves.{Kind, Leaves, AreLeaves, AreAmong, part_of, side_at}
 use Rattle.bf_parts.specs.Merges.{merged, regained}
-use Rattle.bf_parts.specs.MergeLaws.{map_twice, filter_alike, merged_is}
+use Rattle.bf_lemmas.proofs.Lists.{map_twice, filter_alike}
+use Rattle.bf_parts.specs.MergeLaws.{merged_is}
 
 -- by whether a home is the rank, it lives, the rank is its buddy, and the rank's predecessor lives
 heir_by_tests : (a l g p : Bool) → (a ≡ true → l ≡ true) → (g ≡ true → p ≡ l) → cond l a g ≡ (a || (not p && g))

@@ -9,7 +9,7 @@ use Rattle.bf_buddy.specs.Buddy.{place_of, buddy_of, predecessor_place, predeces
 use Rattle.bf_buddy.specs.Members.{is_member}
 use Rattle.bf_program.specs.Laws.{is_holder}
 use Rattle.bf_program.specs.Restores.{heir_of}
-use Rattle.bf_parts.specs.Bools.{eqb_swap}
+use Rattle.bf_lemmas.proofs.Tests.{eqb_swap}
 use Rattle.bf_parts.specs.Sides.{gives, source_of}
 
 pub predecessor_member : (members : List ℕ) (rank shift : ℕ) → IsStrictlyIncreasing members → is_member members rank ≡ true

@@ -5,7 +5,7 @@ use Rattle.std.proofs.Math.Bool.{or-true, or_comm}
 use Rattle.std.proofs.lemmas.Bool.{eqb-true, eq-eqb, and_parts}
 use Rattle.bf_buddy.specs.Buddy.{buddy_of}
 use Rattle.bf_buddy.specs.Members.{is_member}
-use Rattle.bf_parts.specs.Bools.{eqb_swap}
+use Rattle.bf_lemmas.proofs.Tests.{eqb_swap}
 use Rattle.bf_parts.specs.Sides.{gives}
 use Rattle.bf_parts.specs.SnapshotRounds.{are_paired}
 

@@ -12,7 +12,7 @@ use Rattle.bf_buddy.specs.Buddy.{buddy_of, predecessor_of}
 use Rattle.bf_buddy.specs.Members.{is_member}
 use Rattle.bf_program.specs.Restores.{heir_of}
 use Rattle.bf_parts.specs.declared.side.Side.{Side}
-use Rattle.bf_parts.specs.Bools.{iff_same, eqb_swap, not_zero}
+use Rattle.bf_lemmas.proofs.Tests.{same_tests, eqb_swap, not_zero}
 use Rattle.bf_parts.specs.Leaves.{Leaves, part_of, is_filled, side_at}
 use Rattle.bf_parts.specs.RestoreLaws.{heir_is}
 use Rattle.bf_parts.specs.Sides.{has_items, is_given}
@@ -159,7 +159,7 @@ module _ {L I : Type 0} (look : L → View I) (filled : ℕ → Bool) (shift : �
 
   -- a home's part is at a member where the home is filled
   part_found : (home : ℕ) → is_member homes home ≡ true → list_any (holds home) (map at members) ≡ filled home
-  part_found home is_home = iff_same (list_any (holds home) (map at members)) (filled home)
+  part_found home is_home = same_tests (list_any (holds home) (map at members)) (filled home)
       (λ some.
       let one = any_told (holds home) at members some in
       (and_parts (one.0 == home || predecessor_of homes one.0 shift == home) (filled home) (sym (holds_at one.0 home one.1.0) ∙ one.1.1)).1)

@@ -10,28 +10,22 @@ use Rattle.std.proofs.lemmas.List.Elements.{All-head, All-tail, filter_agree}
 use Rattle.std.proofs.lemmas.List.Kept.{AllPairs-from_increasing}
 use Rattle.std.proofs.lemmas.List.Sums.{fold-append}
 use Rattle.bf_buddy.specs.Members.{is_member}
-use Rattle.bf_parts.specs.Bools.{eqb_swap}
+use Rattle.bf_lemmas.proofs.Tests.{eqb_swap}
 use Rattle.bf_parts.specs.Counts.{count_cons}
 use Rattle.bf_rounds.specs.Gathering.{AreMutual}
 use Rattle.bf_rounds.proofs.LeadLemmas.{peers_rise, peers_others, peers_see}
 use Rattle.bf_buddy.proofs.MemberLemmas.{all_member}
 use Rattle.bf_rounds.proofs.VectorLemmas.{member_cut}
 use Rattle.bf_parts.specs.Merges.{merged}
-use Rattle.bf_parts.specs.MergeLaws.{Precedes, filter_alike, first_pairs, rest_pairs}
+use Rattle.bf_lemmas.proofs.Lists.{filter_alike, filter_mapped, filter_twice}
+use Rattle.bf_parts.specs.MergeLaws.{Precedes, first_pairs, rest_pairs}
 use Rattle.bf_parts.specs.MoveLaws.{AreApart, gathered_is}
 use Rattle.bf_parts.specs.CoverLaws.{count_merged, count_mapped}
 use Rattle.bf_rounds.specs.Leading.{LeadsBy, Weighs}
 use Rattle.bf_stages.specs.Moves.{Hand, move_play, hand_of, goes, move_course, GoesToPeer}
 
-filter_mapped : {X Y : Type 0} (p : Y → Bool) (f : X → Y) (q : X → Bool) (xs : List X) → filter p (map f (filter q xs)) ≡ map f (filter (λ x. q x && p (f x)) xs)
-filter_mapped p f q [] = refl
-filter_mapped {X = X} p f q (x ∷ xs) = at (q x) (p (f x)) refl (filter_mapped p f q xs)
-  where
-    at : (b c : Bool) → p (f x) ≡ c → filter p (map f (filter q xs)) ≡ map f (filter (λ x. q x && p (f x)) xs)
-        → filter p (map f (cond b (x ∷ filter q xs) (filter q xs))) ≡ map f (cond (b && p (f x)) (x ∷ filter (λ x. q x && p (f x)) xs) (filter (λ x. q x && p (f x)) xs))
-    at true true is later = rw is (ap (λ ys. f x ∷ ys) later)
-    at true false is later = rw is later
-    at false c is later = later
+filter_kept : {X Y : Type 0} (p : Y → Bool) (f : X → Y) (q : X → Bool) (xs : List X) → filter p (map f (filter q xs)) ≡ map f (filter (λ x. q x && p (f x)) xs)
+filter_kept p f q xs = filter_mapped p f (filter q xs) ∙ ap (map f) (filter_twice (λ x. p (f x)) q xs)
 
 settled : {K X : Type 0} (f : X → X) (item item_after : K → X) (p : K → Bool) (ks : List K) → All (λ k. p k ≡ true → f (item k) ≡ item_after k) ks
     → map f (map item (filter p ks)) ≡ map item_after (filter p ks)
@@ -180,11 +174,11 @@ module _ {K N I : Type 0} (first : I → I → Bool) (keys : List K) (item item_
         let fresh : is_member done to ≡ false = front_apart done rest to (subst AreApart is (rising_apart (peers rank) (peers_rise members sees peers up seen_both rank member))) in
         let left : filter (λ i. not (going rank (known rank) i == to)) (map item (filter (λ k. old k == rank && not (is_member done (new k))) keys))
         ≡ map item (filter (λ k. old k == rank && not (is_member (done ++ to ∷ []) (new k))) keys) =
-        filter_mapped (λ i. not (going rank (known rank) i == to)) item (λ k. old k == rank && not (is_member done (new k))) keys
+        filter_kept (λ i. not (going rank (known rank) i == to)) item (λ k. old k == rank && not (is_member done (new k))) keys
         ∙ ap (map item) (filter_alike (λ k. (old k == rank) ≡ true → going rank (known rank) (item k) ≡ new k) (λ k. (old k == rank && not (is_member done (new k))) && not (going rank (known rank) (item k) == to))
         (λ k. old k == rank && not (is_member (done ++ to ∷ []) (new k))) (left_test rank to done) keys (going_is rank member)) in
         let gone : filter (λ i. going rank (known rank) i == to) (map item (filter (λ k. old k == rank && not (is_member done (new k))) keys)) ≡ goes keys item old new rank to =
-        filter_mapped (λ i. going rank (known rank) i == to) item (λ k. old k == rank && not (is_member done (new k))) keys
+        filter_kept (λ i. going rank (known rank) i == to) item (λ k. old k == rank && not (is_member done (new k))) keys
         ∙ ap (map item) (filter_alike (λ k. (old k == rank) ≡ true → going rank (known rank) (item k) ≡ new k) (λ k. (old k == rank && not (is_member done (new k))) && going rank (known rank) (item k) == to) (λ k. new k == to && old k == rank)
         (sent_test rank to done fresh) keys (going_is rank member)) in
         λ i. (record { rank = rank; known = known rank; items = left i }, gone i);

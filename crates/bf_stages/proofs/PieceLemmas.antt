@@ -1,7 +1,8 @@
 -- In a program of stages no piece comes or goes, and together told locals hold each unit of the domain once.
-use Rattle.std.proofs.Common.{◌≡◌, ℕ, ◌+◌, Bool, List, [], map, filter, arith, refl, sym, ap, ◌∙◌, subst}
+use Rattle.std.proofs.Common.{◌≡◌, ℕ, ◌+◌, Bool, List, [], map, filter, refl, sym, ap, ◌∙◌, subst}
 use Rattle.std.specs.Prelude.{IsTrue, Some}
 use Rattle.std.specs.List.{count_by, flat_map, sum_by}
+use Rattle.std.proofs.Math.Nat.{add-zero}
 use Rattle.bf_buddy.proofs.MemberLemmas.{member_filter_from}
 use Rattle.bf_buddy.specs.Members.{is_member}
 use Rattle.bf_program.specs.declared.epoch.Epoch.{Epoch}
@@ -50,10 +51,7 @@ module _ {S K I L N M T G B U : Type 0} (m : Meanings S L M T (Side I)) (st : St
   weighs_items : (unit : U) (local : L) → cargo local ≡ [] → weigh unit local ≡ count_by (covers unit) (st.look local).items
   weighs_items unit local none =
       weighs unit local ∙ ap (λ (bs : List B). count_by (covers unit) (st.look local).items + times regions bs unit) none
-      ∙ no_more (count_by (covers unit) (st.look local).items)
-    where
-      no_more : (n : ℕ) → n + 0 ≡ n
-      no_more n = omega arith
+      ∙ add-zero (count_by (covers unit) (st.look local).items)
 
   -- a told local has no cargo
   told_cargo : (epoch : Epoch) (round : ℕ) (world : World K) (rank : ℕ) → IsPlaced m st setup epoch round world → cargo (local_told m st setup epoch round world rank) ≡ []

@@ -1,9 +1,10 @@
 -- The snapshot round fills the spare sides.
-use Rattle.std.proofs.Common.{◌≡◌, ◌≢◌, ℕ, Bool, true, false, cond, List, [], ◌∷◌, ◌++◌, ◌+◌, arith, refl, ap, sym, ◌∙◌}
+use Rattle.std.proofs.Common.{◌≡◌, ◌≢◌, ℕ, Bool, true, false, cond, List, [], ◌∷◌, ◌++◌, ◌+◌, refl, ap, sym, ◌∙◌}
 use Rattle.std.specs.Prelude.{◌==◌, ◌&&◌, ◌||◌, not, filter, Option, Some, None}
 use Rattle.std.specs.List.{fold, count_by}
 use Rattle.std.specs.List.Sorted.{IsStrictlyIncreasing}
 use Rattle.std.proofs.lemmas.Bool.{eqb-true, eqb-false, eq-eqb}
+use Rattle.std.proofs.Math.Nat.{add-zero}
 use Rattle.bf_buddy.specs.Members.{is_member}
 use Rattle.bf_buddy.specs.Buddy.{predecessor_of}
 use Rattle.bf_program.specs.declared.epoch.Epoch.{Epoch}
@@ -14,7 +15,7 @@ use Rattle.bf_rounds.specs.Gathering.{gathered, AreMutual, Gathers}
 use Rattle.bf_parts.specs.Leaves.{Leaves, part_of}
 use Rattle.bf_parts.specs.Views.{View}
 use Rattle.bf_parts.specs.Spreads.{Trio, view_at}
-use Rattle.bf_parts.specs.Bools.{eqb_swap}
+use Rattle.bf_lemmas.proofs.Tests.{eqb_swap}
 use Rattle.bf_parts.specs.SnapshotLaws.{paired_apart, paired_both, paired_holders}
 use Rattle.bf_stages.specs.Snapshots.{IsSight, sees_paired, sees_others, heard_part, given_part, snapshot_play, parts_in, holding_part, snapshot_course}
 use Rattle.bf_rounds.proofs.LeadLemmas.{gathers_by}
@@ -145,14 +146,11 @@ others_sight shift ranks = record {
 -- copies weigh nothing
 pub snapshot_weighs : {I : Type 0} (sees : (members : List ℕ) → (rank other : ℕ) → Bool) (shift : ℕ) (epoch : Epoch) (test : I → Bool) → Weighs (λ (view : View I). count_by test view.items) (λ msg. 0) (as_delivery (snapshot_play sees shift epoch))
 snapshot_weighs {I = I} sees shift epoch test = record {
-  out = λ view to. no_more (count_by test view.items);
+  out = λ view to. add-zero (count_by test view.items);
   hear = λ view peer msg. at view msg;
   finish = λ view. refl;
 }
   where
-    no_more : (n : ℕ) → n + 0 ≡ n
-    no_more n = omega arith
-
     at : (view : View I) (msg : Option (List I)) → count_by test (heard_part view msg).items ≡ count_by test view.items + 0
-    at view None = sym (no_more (count_by test view.items))
-    at view (Some items) = sym (no_more (count_by test view.items))
+    at view None = sym (add-zero (count_by test view.items))
+    at view (Some items) = sym (add-zero (count_by test view.items))
