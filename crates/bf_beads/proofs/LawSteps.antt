@@ -30,12 +30,13 @@ use Rattle.bf_beads.specs.declared.setup.BeadSetup.{BeadSetup}
 use Rattle.bf_beads.specs.declared.stage.Stage.{Stage}
 use Rattle.bf_beads.specs.declared.stage.Stage.TheVariants.{Tell, Grow, Move, Snapshot, Over}
 use Rattle.bf_beads.specs.BeadsLaws.{lawful_beads}
-use Rattle.bf_beads.specs.Goods.{IsGood, HasItsPart, RunsForth, leaves_of, work_of, staging}
+use Rattle.bf_beads.specs.Goods.{IsGood, HasItsPart, leaves_of, work_of, staging}
 use Rattle.bf_beads.specs.Meanings.{beads}
 use Rattle.bf_beads.specs.Row.{row, beads_at, bead_kind, IsOwnedAmong, numbers_of}
 use Rattle.bf_beads.specs.RowLaws.{are_beads, part_among, one_number, no_number, count_numbers}
 use Rattle.bf_beads.specs.SpanLaws.{staged, sides, spans}
-use Rattle.bf_beads.specs.Stages.{stages_of, stage_of, rounds_of}
+use Rattle.bf_stages.specs.Plans.{IsShort, stages_of, stage_of, rounds_of}
+use Rattle.bf_beads.specs.Stages.{bead_plan}
 use Rattle.bf_beads.proofs.PointSteps.{keeps}
 
 -- a member's local in a world
@@ -64,10 +65,10 @@ unfolding stage_of
 owners_kept setup epoch locals rank local good goes_on its =
     let at = told_its beads (telling_of beads staging) setup (keeps setup) epoch (beads.rounds setup epoch) locals rank local good its in
     let after : Epoch = epoch_after_commit setup.steps setup.interval epoch in
-    let last : stage_of epoch (rounds_of epoch) ≡ Over = beyond (stages_of epoch) Over (rounds_of epoch) (omega arith) in
+    let last : stage_of bead_plan epoch (rounds_of bead_plan epoch) ≡ Over = beyond (stages_of bead_plan epoch) Over (rounds_of bead_plan epoch) (omega arith) in
     let is : local ≡ local_of_stage beads staging setup epoch Over good.world rank = at.1 ∙ ap (λ (s : Stage). local_of_stage beads staging setup epoch s good.world rank) last in
-    let runs : RunsForth after = (spans setup).commit_runs epoch good.fits.runs goes_on in
-    let first : stage_of after 0 ≡ head_of (stages_of after) Over = head_is (stages_of after) Over in
+    let runs : IsShort after = (spans setup).commit_runs epoch good.fits.runs goes_on in
+    let first : stage_of bead_plan after 0 ≡ head_of (stages_of bead_plan after) Over = head_is (stages_of bead_plan after) Over in
     record {
       rank_is = ap (λ (l : BeadLocal). l.rank) is;
       own = ap (λ (l : BeadLocal). l.beads) is
@@ -75,7 +76,7 @@ owners_kept setup epoch locals rank local good goes_on its =
       heard = ap (λ (l : BeadLocal). l.heard) is
           ∙ sym (ap (λ (s : Stage). work_of setup.beads after s good.world.owner rank) first ∙ (spans setup).fresh after good.world.owner rank runs);
       active = ap (λ (l : BeadLocal). l.spare) is;
-      spare = let some = (spans setup).some_stage after runs in none_made (rounds_of after) some _ _;
+      spare = let some = (spans setup).some_stage after runs in none_made (rounds_of bead_plan after) some _ _;
     }
   where
     none_made : {S : Type 0} (rounds : ℕ) → 0 < rounds → (one other : S) → other ≡ (if not (nat_lt 0 rounds) then one else other)
@@ -125,7 +126,7 @@ one_each setup epoch round locals number good =
     all_numbers number locals
     ∙ ap (λ (ls : List BeadLocal). count_by (λ (bead : Bead). bead.number == number) (flat_map (λ (local : BeadLocal). local.beads) ls)) good.are
     ∙ counted_told beads staging bead_kind setup (sides setup) epoch round good.world (λ (bead : Bead). bead.number == number) good.fits
-    ∙ leaves_counted setup.beads epoch good.world.owner number (stage_of epoch round)
+    ∙ leaves_counted setup.beads epoch good.world.owner number (stage_of bead_plan epoch round)
 
 leaves_among : (count : ℕ) (epoch : Epoch) (owner : ℕ → ℕ) (rank : ℕ) (stage : Stage) → AreAmong epoch.members (leaves_of count epoch stage) owner
     → All (IsOwnedAmong epoch.members) (part_of (leaves_of count epoch stage) owner rank)
@@ -140,7 +141,7 @@ pub all_owned : (setup : BeadSetup) (epoch : Epoch) (round : ℕ) (locals : List
 unfolding stage_of
 all_owned setup epoch round locals rank local good its =
     subst (λ (items : List Bead). All (IsOwnedAmong epoch.members) items) (sym (has_its_part setup epoch round locals rank local good its).own)
-    (leaves_among setup.beads epoch good.world.owner rank (stage_of epoch round) good.fits.owned)
+    (leaves_among setup.beads epoch good.world.owner rank (stage_of bead_plan epoch round) good.fits.owned)
 
 pub heirs_part : (setup : BeadSetup) (epoch : Epoch) (round : ℕ) (locals : List BeadLocal) (lives : ℕ → Bool) (rank : ℕ) (local : BeadLocal) (good : IsGood setup epoch round locals)
     → local_of epoch.members locals rank ≡ Some local → IsTrue (lives rank)

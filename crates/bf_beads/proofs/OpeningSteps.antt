@@ -1,10 +1,8 @@
 -- A row that is built up from its first.
-use Rattle.std.proofs.Common.{◌≡◌, ℕ, ◌+◌, ◌<◌, Bool, true, false, cond, List, [], ◌∷◌, ◌++◌, map, arith, refl, ap, sym, ◌∙◌}
-use Rattle.std.specs.Prelude.{IsTrue, filter, ◌==◌}
+use Rattle.std.proofs.Common.{◌≡◌, ℕ, ◌+◌, Bool, true, false, cond, List, [], ◌∷◌, ◌++◌, map, refl, ap, sym, ◌∙◌}
+use Rattle.std.specs.Prelude.{filter, ◌==◌}
 use Rattle.std.specs.List.{range_with_len}
 use Rattle.std.proofs.lemmas.List.{map-append, append-nil}
-use Rattle.std.proofs.lemmas.List.FromFn.{filter_of_map_range_with_len_more}
-use Rattle.bf_buddy.specs.Members.{is_member}
 use Rattle.bf_parts.specs.Leaves.{part_of}
 use Rattle.bf_buddy.proofs.MemberLemmas.{range_has}
 use Rattle.bf_lemmas.proofs.Lists.{numbers_more}

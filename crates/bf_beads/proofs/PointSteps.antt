@@ -31,7 +31,8 @@ use Rattle.bf_beads.specs.Rounds.{play_of}
 use Rattle.bf_beads.specs.Row.{beads_at, IsOwnedAmong}
 use Rattle.bf_beads.specs.RowLaws.{part_among}
 use Rattle.bf_beads.specs.SpanLaws.{staged}
-use Rattle.bf_beads.specs.Stages.{stage_of}
+use Rattle.bf_stages.specs.Plans.{stage_of}
+use Rattle.bf_beads.specs.Stages.{bead_plan}
 
 pub keeps : (setup : BeadSetup) → KeepsTelling beads (telling_of beads staging) setup
 keeps setup = keeps_telling beads staging setup (staged setup) pieces (has_stages setup)
@@ -59,10 +60,10 @@ peers_at shift epoch local Snapshot is_in =
 peers_at shift epoch local Over is_in = none_passes epoch.members
 
 pub peers_are : (setup : BeadSetup) (epoch : Epoch) (round : ℕ) (local : BeadLocal) → IsFirst beads IsGood setup epoch round local
-    → filter (is_peer (stage_of epoch round) epoch.members setup.shift local) epoch.members ≡ beads.peers setup local epoch round
+    → filter (is_peer (stage_of bead_plan epoch round) epoch.members setup.shift local) epoch.members ≡ beads.peers setup local epoch round
 peers_are setup epoch round local first =
     let told = first_told beads (telling_of beads staging) setup (keeps setup) (lawful_beads setup).goods epoch round local first in
-    peers_at setup.shift epoch local (stage_of epoch round) (ap (λ (l : BeadLocal). is_member epoch.members l.rank) told.is ∙ told.member)
+    peers_at setup.shift epoch local (stage_of bead_plan epoch round) (ap (λ (l : BeadLocal). is_member epoch.members l.rank) told.is ∙ told.member)
 
 -- the owners in the links of a side that is told are homes
 abbrev AreAmongHomes : Side Bead → Type 0

@@ -1,5 +1,6 @@
 -- Good vectors of locals: all that can differ between two at one round of one epoch is who owns which bead, and who has which of the agreed snapshot.
-use Rattle.std.specs.Prelude.{◌≡◌, not, nat_lt, if◌then◌else◌, ℕ, ◌+◌, ◌≤◌, List, [], filter}
+use Rattle.std.specs.Prelude.{◌≡◌, not, nat_lt, if◌then◌else◌, ℕ, ◌+◌, List, [], filter}
+use Rattle.bf_buddy.specs.Members.{without}
 use Rattle.bf_program.specs.declared.epoch.Epoch.{Epoch}
 use Rattle.bf_parts.specs.Leaves.{Leaves, part_of, side_at}
 use Rattle.bf_parts.specs.Sides.{bare}
@@ -20,9 +21,10 @@ use Rattle.bf_beads.specs.declared.stage.Stage.{Stage}
 use Rattle.bf_beads.specs.declared.stage.Stage.TheVariants.{Tell, Grow, Move, Snapshot, Over}
 use Rattle.bf_beads.specs.Locals.{view_in, local_with}
 use Rattle.bf_beads.specs.Meanings.{beads}
-use Rattle.bf_beads.specs.Rounds.{is_linked, is_neighbor, tell_play, goes_to, others_of, play_of}
+use Rattle.bf_beads.specs.Rounds.{is_linked, is_neighbor, tell_play, goes_to, play_of}
 use Rattle.bf_beads.specs.Row.{row, bead_at, beads_at, bead_kind}
-use Rattle.bf_beads.specs.Stages.{stages_of, stage_of, rounds_of, is_made}
+use Rattle.bf_stages.specs.Plans.{IsShort, stages_of, stage_of, rounds_of}
+use Rattle.bf_beads.specs.Stages.{bead_plan, is_made}
 
 -- the beads at the beginning of a stage
 abbrev pub leaves_of : (count : ℕ) → Epoch → Stage → Leaves ℕ Bead
@@ -73,7 +75,7 @@ tell_course count epoch time owner = gathering tell_play (λ peer msg. msg) (han
 
 abbrev pub moves_course : (count : ℕ) → Epoch → (time : ℕ) → (owner : ℕ → ℕ) → Course (Hand (List Bead) Bead) (List Bead)
 moves_course count epoch time owner =
-    move_course bead_kind.first (row count) (bead_at count (time + 1) owner) owner (λ number. goes_to epoch.members time number (owner number)) (λ rank. []) (others_of epoch.members)
+    move_course bead_kind.first (row count) (bead_at count (time + 1) owner) owner (λ number. goes_to epoch.members time number (owner number)) (λ rank. []) (without epoch.members)
 
 abbrev pub last_trio : (count : ℕ) → Epoch → Trio ℕ Bead
 last_trio count epoch = record { now = beads_at count epoch.target; agreed = beads_at count epoch.time; new = beads_at count epoch.target }
@@ -86,20 +88,15 @@ course_of count shift epoch (Move time) world = lifted (local_of_hand count shif
 course_of count shift epoch Snapshot world = lifted (λ rank view. local_with view []) Copied (snapshot_course (sees_paired shift) shift epoch (last_trio count epoch) world.owner world.home)
 course_of count shift epoch Over world = alone (Told []) (λ rank. local_of_hand count shift epoch world rank (hand_at count epoch.target world.owner rank []))
 
--- the epochs that come up
-pub record RunsForth (epoch : Epoch) : Type 0 where
-  pub forth : epoch.time ≤ epoch.target
-  pub near : epoch.target ≤ epoch.time + 128
-
 abbrev pub staging : Staging BeadSetup ℕ Bead BeadLocal (List Bead) BeadMessage Stage
 staging = record {
   look = view_in;
   put = local_with;
   at = λ setup time. beads_at setup.beads time;
-  Runs = λ setup epoch. RunsForth epoch;
+  Runs = λ setup epoch. IsShort epoch;
   Also = λ setup epoch stage owner. Unit {0};
   fresh = λ setup epoch rank. [];
-  stages = λ setup epoch. stages_of epoch;
+  stages = λ setup epoch. stages_of bead_plan epoch;
   last = Over;
   made = is_made;
   play = λ setup epoch stage. play_of setup.shift epoch stage;
@@ -116,7 +113,7 @@ IsGood = IsTold (telling_of beads staging)
 -- snapshot and, once all rounds are done, of the new one
 pub record HasItsPart (setup : BeadSetup) (epoch : Epoch) (round : ℕ) (world : World ℕ) (rank : ℕ) (local : BeadLocal) : Type 0 where
   pub rank_is : local.rank ≡ rank
-  pub own : local.beads ≡ part_of (leaves_of setup.beads epoch (stage_of epoch round)) world.owner rank
-  pub heard : local.heard ≡ work_of setup.beads epoch (stage_of epoch round) world.owner rank
+  pub own : local.beads ≡ part_of (leaves_of setup.beads epoch (stage_of bead_plan epoch round)) world.owner rank
+  pub heard : local.heard ≡ work_of setup.beads epoch (stage_of bead_plan epoch round) world.owner rank
   pub active : local.active ≡ side_at epoch.time epoch.homes setup.shift (beads_at setup.beads epoch.time) world.home rank
-  pub spare : local.spare ≡ (if not (nat_lt round (rounds_of epoch)) then side_at epoch.target epoch.members setup.shift (beads_at setup.beads epoch.target) world.owner rank else bare)
+  pub spare : local.spare ≡ (if not (nat_lt round (rounds_of bead_plan epoch)) then side_at epoch.target epoch.members setup.shift (beads_at setup.beads epoch.target) world.owner rank else bare)

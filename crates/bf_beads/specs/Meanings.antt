@@ -14,7 +14,8 @@ use Rattle.bf_beads.specs.declared.setup.BeadSetup.{BeadSetup}
 use Rattle.bf_beads.specs.Locals.{moved_in, beads_in, view_in, local_with}
 use Rattle.bf_beads.specs.Rounds.{play_of}
 use Rattle.bf_beads.specs.Row.{beads_at, bead_kind, home_in, numbers_of, total}
-use Rattle.bf_beads.specs.Stages.{rounds_of, stage_of}
+use Rattle.bf_stages.specs.Plans.{rounds_of, stage_of}
+use Rattle.bf_beads.specs.Stages.{bead_plan}
 
 -- a rank's local at the opening
 abbrev pub opened : (count ranks shift rank : ℕ) → BeadLocal
@@ -33,11 +34,11 @@ beads = record {
   shift = λ setup. setup.shift;
   interval = λ setup. setup.interval;
   deaths = λ setup. take setup.dying setup.deaths;
-  rounds = λ setup epoch. rounds_of epoch;
-  peers = λ setup local epoch round. (play_of setup.shift epoch (stage_of epoch round)).peers epoch.members local;
-  out = λ setup local epoch round to. (play_of setup.shift epoch (stage_of epoch round)).out local to;
-  take = λ setup local epoch round peer msg. (play_of setup.shift epoch (stage_of epoch round)).hear local peer msg;
-  finish = λ setup local epoch round. (play_of setup.shift epoch (stage_of epoch round)).finish local;
+  rounds = λ setup epoch. rounds_of bead_plan epoch;
+  peers = λ setup local epoch round. (play_of setup.shift epoch (stage_of bead_plan epoch round)).peers epoch.members local;
+  out = λ setup local epoch round to. (play_of setup.shift epoch (stage_of bead_plan epoch round)).out local to;
+  take = λ setup local epoch round peer msg. (play_of setup.shift epoch (stage_of bead_plan epoch round)).hear local peer msg;
+  finish = λ setup local epoch round. (play_of setup.shift epoch (stage_of bead_plan epoch round)).finish local;
   filled = λ local. has_items local.spare.own;
   parcel = λ local. (record local { beads = [] }, local.beads);
   keep = λ local. record local { active = local.spare; spare = bare };

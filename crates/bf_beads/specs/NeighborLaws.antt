@@ -1,5 +1,5 @@
 -- Who has a bead that is linked with one of another, is seen so by that one.
-use Rattle.std.proofs.Common.{◌≡◌, ℕ, Bool, true, false, cond, List, [], ◌∷◌, map, arith, refl, ap, sym, ◌∙◌}
+use Rattle.std.proofs.Common.{◌≡◌, ℕ, Bool, true, false, cond, List, [], ◌∷◌, arith, refl, ap, sym, ◌∙◌}
 use Rattle.std.specs.Prelude.{◌==◌, ◌&&◌, ◌||◌, not, filter}
 use Rattle.std.specs.List.{list_any}
 use Rattle.std.proofs.lemmas.Bool.{and_parts, and_from, or_right, eq-eqb}
@@ -9,7 +9,7 @@ use Rattle.bf_lemmas.proofs.Lists.{any_mapped}
 use Rattle.bf_parts.specs.Leaves.{part_of}
 use Rattle.bf_rounds.specs.Gathering.{AreMutual}
 use Rattle.bf_beads.specs.declared.bead.Link.{Link}
-use Rattle.bf_beads.specs.Rounds.{is_linked, is_neighbor, others_of}
+use Rattle.bf_beads.specs.Rounds.{is_linked, is_neighbor}
 use Rattle.bf_beads.specs.Row.{row, is_beside, link_to, links_of, bead_at, beads_at}
 
 any_filtered : {X : Type 0} (test p : X → Bool) (xs : List X) → list_any test (filter p xs) ≡ list_any (λ x. p x && test x) xs
@@ -67,10 +67,3 @@ module _ (count time : ℕ) (owner : ℕ → ℕ) where
         let parts = and_parts (not (other == rank)) (list_any (is_linked other) (part_of (beads_at count time) owner rank)) sees in
         and_from (not (rank == other)) (list_any (is_linked rank) (part_of (beads_at count time) owner other)) (ap not (eqb_swap rank other) ∙ parts.0) (linked_back rank other parts.1);
   }
-
-pub others_mutual : (members : List ℕ) → AreMutual members (λ rank other. not (other == rank)) (others_of members)
-others_mutual members = record {
-  are = λ rank is_in. refl;
-  apart = λ rank. let same : (rank == rank) ≡ true = eq-eqb rank rank refl in rw same refl;
-  both = λ rank other is_in other_in sees. ap not (eqb_swap rank other) ∙ sees;
-}

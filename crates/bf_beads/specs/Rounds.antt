@@ -1,7 +1,7 @@
 -- How each round is played.
 use Rattle.std.specs.Prelude.{ℕ, ◌+◌, ◌%◌, ◌==◌, ◌&&◌, not, Bool, List, [], ◌++◌, map, filter, if◌then◌else◌}
 use Rattle.std.specs.List.{list_any}
-use Rattle.bf_buddy.specs.Members.{is_member}
+use Rattle.bf_buddy.specs.Members.{is_member, without}
 use Rattle.bf_buddy.specs.Buddy.{buddy_of}
 use Rattle.bf_program.specs.declared.epoch.Epoch.{Epoch}
 use Rattle.bf_rounds.specs.Gathering.{Play}
@@ -56,12 +56,9 @@ relinked_one members time link = record link { owner = goes_to members time link
 abbrev pub relinked : (members : List ℕ) → (time : ℕ) → Bead → Bead
 relinked members time bead = record bead { links = map (relinked_one members time) bead.links }
 
-abbrev pub others_of : (members : List ℕ) → (rank : ℕ) → List ℕ
-others_of members rank = filter (λ other. not (other == rank)) members
-
 -- beads go to other ranks, and then all links follow
 abbrev pub bead_move : (members : List ℕ) → (time : ℕ) → Delivery (Hand (List Bead) Bead) (List Bead)
-bead_move members time = move_play bead_kind.first (λ members hand. others_of members hand.rank) (λ rank known bead. goes_to members time bead.number rank) (λ rank known bead. relinked members time bead)
+bead_move members time = move_play bead_kind.first (λ members hand. without members hand.rank) (λ rank known bead. goes_to members time bead.number rank) (λ rank known bead. relinked members time bead)
 
 -- behind all rounds nobody talks and nothing changes
 abbrev pub idle_play : Delivery BeadLocal BeadMessage

@@ -1,5 +1,5 @@
 -- What is seen of a local, and how epochs begin and end.
-use Rattle.std.proofs.Common.{◌≡◌, ℕ, suc, zero, ◌+◌, ◌*◌, true, false, List, [], ◌∷◌, length, arith, refl, ap, sym, ◌∙◌}
+use Rattle.std.proofs.Common.{◌≡◌, ℕ, ◌+◌, ◌*◌, true, false, List, [], ◌∷◌, arith, refl, ap, sym}
 use Rattle.std.specs.Prelude.{nat_lt, ◌==◌, Option, Some, None, All}
 use Rattle.std.specs.List.{count_by}
 use Rattle.std.proofs.lemmas.List.{append-nil}
@@ -17,29 +17,31 @@ use Rattle.bf_beads.specs.declared.bead.Bead.{Bead}
 use Rattle.bf_beads.specs.declared.setup.BeadSetup.{BeadSetup}
 use Rattle.bf_beads.specs.declared.stage.Stage.{Stage}
 use Rattle.bf_beads.specs.declared.stage.Stage.TheVariants.{Tell, Grow, Move, Snapshot, Over}
-use Rattle.bf_beads.specs.Goods.{leaves_of, work_of, RunsForth, staging}
+use Rattle.bf_beads.specs.Goods.{leaves_of, work_of, staging}
 use Rattle.bf_beads.specs.Locals.{view_in, told_lens, moved_lens}
 use Rattle.bf_beads.specs.Meanings.{beads, pieces}
 use Rattle.bf_beads.specs.Rounds.{tell_play, bead_move, play_of}
 use Rattle.bf_beads.specs.Row.{beads_at, bead_kind, home_in, numbers_of}
 use Rattle.bf_beads.specs.RowLaws.{are_beads, one_number}
-use Rattle.bf_beads.specs.Stages.{span, stages_from, stages_of, stage_of, is_made}
+use Rattle.bf_stages.specs.Plans.{IsShort, span, rounds_of, stages_of, stage_of}
+use Rattle.bf_stages.proofs.PlanLemmas.{all_stages, first_stage, rounds_many, span_few, span_whole}
+use Rattle.bf_beads.specs.Stages.{bead_plan, is_made}
 
 pub staged : (setup : BeadSetup) → IsStaged beads staging setup
 unfolding stage_of
 staged setup = record {
   rounds = λ epoch. refl;
   plays = λ epoch round. record { peers = λ local. refl; out = λ local to. refl; take = λ local peer msg. refl; finish = λ local. refl };
-  unmade = λ epoch. all_unmade epoch.time (span epoch);
+  unmade = λ epoch. all_stages bead_plan Unmade step_unmade refl epoch.time (span epoch);
   made = refl;
 }
   where
-    all_unmade : (time count : ℕ) → All (λ stage. is_made stage ≡ false) (stages_from time count)
-    all_unmade time zero = All-cons (λ stage. is_made stage ≡ false) Snapshot [] refl (All-nil (λ stage. is_made stage ≡ false))
-    all_unmade time (suc count) =
-        let rest : List Stage = stages_from (time + 1) count in
-        All-cons (λ stage. is_made stage ≡ false) (Tell time) (Grow time ∷ Move time ∷ rest) refl
-        (All-cons (λ stage. is_made stage ≡ false) (Grow time) (Move time ∷ rest) refl (All-cons (λ stage. is_made stage ≡ false) (Move time) rest refl (all_unmade (time + 1) count)))
+    Unmade : Stage → Type 0
+    Unmade stage = is_made stage ≡ false
+
+    step_unmade : (time : ℕ) → All Unmade (bead_plan.in_step time)
+    step_unmade time = All-cons Unmade (Tell time) (Grow time ∷ Move time ∷ []) refl
+        (All-cons Unmade (Grow time) (Move time ∷ []) refl (All-cons Unmade (Move time) [] refl (All-nil Unmade)))
 
 pub sides : (setup : BeadSetup) → HasSides beads staging bead_kind setup
 sides setup = record {
@@ -66,31 +68,29 @@ sides setup = record {
     by epoch Over = record { out = λ local to. refl; hear = λ local peer msg. refl; finish = λ local. refl }
 
 -- an epoch begins with the beads of its time, and nothing heard
-first_beads : (setup : BeadSetup) (epoch : Epoch) (count : ℕ) → span epoch ≡ count → RunsForth epoch → leaves_of setup.beads epoch (head_of (stages_of epoch) Over) ≡ beads_at setup.beads epoch.time
-first_beads setup epoch zero is runs =
-    ap (λ n. leaves_of setup.beads epoch (head_of (stages_from epoch.time n) Over)) is
-    ∙ ap (beads_at setup.beads) (let e : epoch.target ≡ epoch.time = omega (arith, runs.forth, runs.near, is) in e)
-first_beads setup epoch (suc count) is runs = ap (λ n. leaves_of setup.beads epoch (head_of (stages_from epoch.time n) Over)) is
+first_beads : (setup : BeadSetup) (epoch : Epoch) → IsShort epoch → leaves_of setup.beads epoch (head_of (stages_of bead_plan epoch) Over) ≡ beads_at setup.beads epoch.time
+first_beads setup epoch short =
+    first_stage bead_plan (λ stage. leaves_of setup.beads epoch stage ≡ beads_at setup.beads epoch.time) Tell (λ time other. refl) epoch.time (span epoch) refl
+    (λ none. ap (beads_at setup.beads) (let whole = span_whole epoch short in let e : epoch.target ≡ epoch.time = omega (arith, whole, none) in e))
 
-first_work : (setup : BeadSetup) (epoch : Epoch) (count : ℕ) → span epoch ≡ count → (owner : ℕ → ℕ) (rank : ℕ) → work_of setup.beads epoch (head_of (stages_of epoch) Over) owner rank ≡ []
-first_work setup epoch zero is owner rank = ap (λ n. work_of setup.beads epoch (head_of (stages_from epoch.time n) Over) owner rank) is
-first_work setup epoch (suc count) is owner rank = ap (λ n. work_of setup.beads epoch (head_of (stages_from epoch.time n) Over) owner rank) is
+first_work : (setup : BeadSetup) (epoch : Epoch) (owner : ℕ → ℕ) (rank : ℕ) → work_of setup.beads epoch (head_of (stages_of bead_plan epoch) Over) owner rank ≡ []
+first_work setup epoch owner rank =
+    first_stage bead_plan (λ stage. work_of setup.beads epoch stage owner rank ≡ []) Tell (λ time other. refl) epoch.time (span epoch) refl (λ none. refl)
 
-pub stages_many : (time count : ℕ) → length (stages_from time count) ≡ 3 * count + 1
-stages_many time zero = refl
-stages_many time (suc count) = let later = stages_many (time + 1) count in omega (arith, later)
+pub rounds_three : (epoch : Epoch) → rounds_of bead_plan epoch ≡ 3 * span epoch + 1
+rounds_three epoch = rounds_many bead_plan 3 (λ time. refl) epoch
 
 pub spans : (setup : BeadSetup) → HasSpans beads staging bead_kind setup
 spans setup = record {
   first_runs = record { forth = omega arith; near = omega (arith, setup.interval_fits) };
   commit_runs = λ epoch runs goes_on. record { forth = omega (arith, goes_on); near = omega (arith, setup.interval_fits) };
   restore_runs = λ epoch lives runs. record { forth = omega arith; near = omega arith };
-  some_stage = λ epoch runs. let many = stages_many epoch.time (span epoch) in omega (arith, many);
+  some_stage = λ epoch runs. let many = rounds_three epoch in omega (arith, many);
   are = λ epoch runs. are_beads setup.beads epoch.time;
-  begins = λ epoch runs. first_beads setup epoch (span epoch) refl runs;
+  begins = λ epoch runs. first_beads setup epoch runs;
   ends = λ epoch runs. refl;
   also = λ epoch owner runs owned. tt;
-  fresh = λ epoch owner rank runs. first_work setup epoch (span epoch) refl owner rank;
+  fresh = λ epoch owner rank runs. first_work setup epoch owner rank;
   keep = λ epoch view owner rank runs goes_on. refl;
   home_of = home_in setup.ranks;
   housed = λ k d within. range_has setup.ranks _ (mod-lt _ (omega (arith, setup.some_rank)));
@@ -106,7 +106,7 @@ limits setup = record {
   shift = setup.shift_fits;
   some_interval = setup.some_interval;
   interval = setup.interval_fits;
-  rounds = λ epoch. let many = stages_many epoch.time (span epoch) in omega (arith, many);
+  rounds = λ epoch. let many = rounds_three epoch in let few = span_few epoch in omega (arith, many, few);
   deaths = setup.deaths_below;
   rising_deaths = setup.deaths_rise;
 }

@@ -1,7 +1,9 @@
-ghost use Rattle.std.specs.Prelude.{◌≡◌, ◌+◌, ◌^◌, ◌<◌, ◌≤◌};
-ghost use Rattle.bf_beads.specs.Stages.{span, rounds_of, stage_of};
+ghost use Rattle.std.specs.Prelude.{◌≡◌};
+ghost use Rattle.bf_stages.specs.Plans.{rounds_of, stage_of};
+ghost use Rattle.bf_beads.specs.Stages.{bead_plan};
 
 use bf_program::Epoch;
+use bf_stages::span;
 
 /// What a round does, in the step from a time to the next.
 #[derive(Clone, Copy)]
@@ -18,19 +20,10 @@ pub enum Stage {
     Over,
 }
 
-// How many steps of time an epoch makes.
-fn span(epoch: &Epoch) -> u32
-    ensures steps { result ≡ span epoch.now }
-    ensures few { result ≤ 128 }
-    ensures fits { epoch.now.time + result < 2 ^ 32 }
-{
-    epoch.target.saturating_sub(epoch.time).min(128)
-}
-
 /// How many rounds an epoch has: three for each step, and the snapshot.
 #[tactic(auto, using(crate::proofs::StageSteps::stage_steps))]
 pub fn rounds(epoch: &Epoch) -> u32
-    ensures { result ≡ rounds_of epoch.now }
+    ensures { result ≡ rounds_of bead_plan epoch.now }
 {
     3 * span(epoch) + 1
 }
@@ -38,7 +31,7 @@ pub fn rounds(epoch: &Epoch) -> u32
 /// What a round of an epoch does.
 #[tactic(auto, using(crate::proofs::StageSteps::stage_steps))]
 pub fn stage_of(epoch: &Epoch, round: u32) -> Stage
-    ensures { result ≡ stage_of epoch.now round }
+    ensures { result ≡ stage_of bead_plan epoch.now round }
 {
     let steps = span(epoch);
     if 3 * steps < round {

@@ -97,11 +97,7 @@ fn expect_owners(rt: &impl Abort, beads: &Items<Bead>, first: u32, second: u32) 
 #[test]
 #[tactic(none)]
 fn the_first_rank_begins_with_two_beads_and_a_copy(rt: HostRuntime) -> Result<(), Fail> {
-    let Three {
-        a: local,
-        b: _,
-        c: _,
-    } = opened_three(rt.alloc())?;
+    let local = opened(rt.alloc(), &setup(), 0)?;
     expect_two(&rt, &local.beads, 0, 3);
     expect_values(&rt, &local.beads, 1, 4);
     expect_owners(&rt, &local.beads, 1, 2);
@@ -110,12 +106,9 @@ fn the_first_rank_begins_with_two_beads_and_a_copy(rt: HostRuntime) -> Result<()
     Ok(())
 }
 
-// Bead 0 goes from the first rank to the second, and bead 2 from the third to the first. Bead 0's neighbour, bead 1, stays
-// with the second rank; bead 2's neighbours stay too.
-#[test]
+// The three after the moves of the step from time 0, before the links follow.
 #[tactic(none)]
-fn beads_go_to_the_next_member_and_links_follow(rt: HostRuntime) -> Result<(), Fail> {
-    let alloc = rt.alloc();
+fn moved_three(alloc: Global) -> Result<Three, Memory> {
     let Three {
         mut a,
         mut b,
@@ -123,13 +116,46 @@ fn beads_go_to_the_next_member_and_links_follow(rt: HostRuntime) -> Result<(), F
     } = opened_three(alloc)?;
     pass(alloc, Stage::Move(0), &mut a, &mut b)?;
     pass(alloc, Stage::Move(0), &mut c, &mut a)?;
+    Ok(Three { a, b, c })
+}
+
+// And at the end of the round.
+#[tactic(none)]
+fn relinked_three(alloc: Global) -> Result<Three, Memory> {
+    let Three { mut a, mut b, c } = moved_three(alloc)?;
     end(alloc, Stage::Move(0), epoch(), 0, &mut a)?;
     end(alloc, Stage::Move(0), epoch(), 0, &mut b)?;
-    expect_two(&rt, &a.beads, 2, 3);
-    expect_owners(&rt, &a.beads, 1, 0);
-    expect_two(&rt, &b.beads, 0, 1);
-    expect_owners(&rt, &b.beads, 1, 1);
-    expect_none(&rt, &c.beads);
+    Ok(Three { a, b, c })
+}
+
+// Bead 0 goes from the first rank to the second, and bead 2 from the third to the first. Bead 0's neighbour, bead 1, stays
+// with the second rank; bead 2's neighbours stay too.
+#[test]
+#[tactic(none)]
+fn beads_go_to_the_next_member_and_links_follow(rt: HostRuntime) -> Result<(), Fail> {
+    let three = relinked_three(rt.alloc())?;
+    expect_two(&rt, &three.a.beads, 2, 3);
+    expect_owners(&rt, &three.a.beads, 1, 0);
+    expect_two(&rt, &three.b.beads, 0, 1);
+    expect_owners(&rt, &three.b.beads, 1, 1);
+    expect_none(&rt, &three.c.beads);
+    Ok(())
+}
+
+// The three when the first has heard the second in the step from time 7.
+#[tactic(none)]
+fn told_three(alloc: Global) -> Result<Three, Memory> {
+    let Three { mut a, mut b, c } = opened_three(alloc)?;
+    pass(alloc, Stage::Tell(7), &mut b, &mut a)?;
+    Ok(Three { a, b, c })
+}
+
+#[test]
+#[tactic(none)]
+fn a_neighbour_tells_of_beads_that_stay(rt: HostRuntime) -> Result<(), Fail> {
+    let three = told_three(rt.alloc())?;
+    expect_one(&rt, &three.a.heard, 1);
+    expect_one(&rt, &three.b.beads, 1);
     Ok(())
 }
 
@@ -137,14 +163,10 @@ fn beads_go_to_the_next_member_and_links_follow(rt: HostRuntime) -> Result<(), F
 #[test]
 #[tactic(none)]
 fn what_a_neighbour_tells_is_let_go_when_beads_grow(rt: HostRuntime) -> Result<(), Fail> {
-    let alloc = rt.alloc();
-    let Three { mut a, mut b, c: _ } = opened_three(alloc)?;
-    pass(alloc, Stage::Tell(7), &mut b, &mut a)?;
-    expect_one(&rt, &a.heard, 1);
-    expect_one(&rt, &b.beads, 1);
-    end(alloc, Stage::Grow(7), epoch(), 0, &mut a)?;
-    expect_none(&rt, &a.heard);
-    expect_values(&rt, &a.beads, 8, 14);
+    let mut three = told_three(rt.alloc())?;
+    end(rt.alloc(), Stage::Grow(7), epoch(), 0, &mut three.a)?;
+    expect_none(&rt, &three.a.heard);
+    expect_values(&rt, &three.a.beads, 8, 14);
     Ok(())
 }
 
@@ -172,11 +194,7 @@ fn expect_measure(rt: &impl Abort, msg: &BeadMessage, blocks: u32, sum: u64) {
 #[test]
 #[tactic(none)]
 fn a_message_weighs_its_beads(rt: HostRuntime) -> Result<(), Fail> {
-    let Three {
-        a: mut local,
-        b: _,
-        c: _,
-    } = opened_three(rt.alloc())?;
+    let mut local = opened(rt.alloc(), &setup(), 0)?;
     let msg = send(rt.alloc(), Stage::Snapshot, epoch(), 0, &mut local, 1)?;
     expect_measure(&rt, &msg, 2, 5);
     let none = send(rt.alloc(), Stage::Snapshot, epoch(), 0, &mut local, 2)?;

@@ -25,7 +25,8 @@ use Rattle.bf_forest.specs.ModelBlocks.{blocks_at, IsBlockAt}
 use Rattle.bf_forest.specs.Ready.{IsReady}
 use Rattle.bf_forest.specs.RoundLaws.{has_stages, heard_all}
 use Rattle.bf_forest.specs.StageLaws.{stage_step, stage_snapshot, stage_over}
-use Rattle.bf_forest.specs.Stages.{span, stage_of}
+use Rattle.bf_stages.specs.Plans.{span, stage_of}
+use Rattle.bf_forest.specs.Stages.{forest_plan}
 use Rattle.bf_forest.specs.Staging.{course_in, leaves_in, forest_staging}
 use Rattle.bf_forest.specs.StepLaws.{HasRoots}
 
@@ -62,7 +63,7 @@ part_ready setup time owner members rank local owned more own heard =
     }
 
 -- the time of a step's round
-step_time : (epoch : Epoch) (round time : ℕ) → stage_of epoch round ≡ Step time → (round < span epoch) × (time ≡ epoch.time + round)
+step_time : (epoch : Epoch) (round time : ℕ) → stage_of forest_plan epoch round ≡ Step time → (round < span epoch) × (time ≡ epoch.time + round)
 step_time epoch round time is = elim (cases_lt round (span epoch)) [
   | inl before ↦ (before, let same : Step time ≡ Step (epoch.time + round) = sym is ∙ stage_step epoch round before in cc)
   | inr after ↦ elim (cases_order round (span epoch)) [
@@ -76,7 +77,7 @@ step_time epoch round time is = elim (cases_lt round (span epoch)) [
     past (inr more) after = more
 
 pub finishing_ready : (setup : Setup) (epoch : Epoch) (round time : ℕ) (local : ForestLocal) → IsFinishing forest IsGood setup epoch round local
-    → stage_of epoch round ≡ Step time → (time : ℕ) × IsReady (case_of setup) time local
+    → stage_of forest_plan epoch round ≡ Step time → (time : ℕ) × IsReady (case_of setup) time local
 unfolding stage_of
 finishing_ready setup epoch round time local at stage =
     let c : Case = case_of setup in

@@ -35,9 +35,12 @@ use Rattle.bf_forest.specs.BlockLaws.{are_leaves, one_holds, first_part, first_o
 use Rattle.bf_forest.specs.Goods.{IsGood}
 use Rattle.bf_forest.specs.Meanings.{forest, pieces, box_in, in_domain, with_heard, heard_of, ended, restored, first_blocks, opened}
 use Rattle.bf_forest.specs.ModelBlocks.{blocks_at, first_home}
-use Rattle.bf_forest.specs.RoundLaws.{has_stages}
-use Rattle.bf_forest.specs.StageLaws.{rounds_many, span_whole}
-use Rattle.bf_forest.specs.Stages.{span, rounds_of, stages_from, stages_of, stage_of}
+use Rattle.bf_forest.specs.RoundLaws.{has_stages, is_short}
+use Rattle.bf_stages.specs.Plans.{span, rounds_of, stages_of, stage_of}
+use Rattle.bf_stages.proofs.PlanLemmas.{all_stages, first_stage, span_few, span_whole}
+use Rattle.bf_forest.specs.BoxLaws.{boxes}
+use Rattle.bf_forest.specs.StageLaws.{rounds_are}
+use Rattle.bf_forest.specs.Stages.{forest_plan}
 use Rattle.bf_forest.specs.Staging.{is_made, leaves_in, Runs, forest_staging}
 use Rattle.bf_forest.specs.Starts.{starts}
 
@@ -73,13 +76,10 @@ sides setup = record {
 }
 
 -- an epoch begins with the leaves of its time
-head_leaves : (c : Case) (epoch : Epoch) (time count : ℕ) → time + count ≡ epoch.target → leaves_in c epoch (head_of (stages_from time count) Over) ≡ blocks_at c time
-head_leaves c epoch time zero whole = ap (blocks_at c) (let e : epoch.target ≡ time = omega (arith, whole) in e)
-head_leaves c epoch time (suc count) whole = refl
-
-begins_with : (c : Case) (epoch : Epoch) → epoch.time + span epoch ≡ epoch.target → leaves_in c epoch (head_of (stages_of epoch) Over) ≡ blocks_at c epoch.time
-unfolding stages_of
-begins_with c epoch whole = head_leaves c epoch epoch.time (span epoch) whole
+begins_with : (c : Case) (epoch : Epoch) → epoch.time + span epoch ≡ epoch.target → leaves_in c epoch (head_of (stages_of forest_plan epoch) Over) ≡ blocks_at c epoch.time
+begins_with c epoch whole =
+    first_stage forest_plan (λ stage. leaves_in c epoch stage ≡ blocks_at c epoch.time) Step (λ time other. refl) epoch.time (span epoch) refl
+    (λ none. ap (blocks_at c) (let e : epoch.target ≡ epoch.time = omega (arith, whole, none) in e))
 
 -- the ranks' locals at the opening
 opened_is : (c : Case) (rank : ℕ) → IsValid c → opened c rank ≡ with_heard (record {
@@ -102,8 +102,7 @@ opened_is c rank valid =
     ∙ ap (local (part_of (blocks_at c 0) (first_home c) rank)) (first_part c from valid)
 
 pub whole_span : (setup : Setup) (epoch : Epoch) → Runs (case_of setup) epoch → epoch.time + span epoch ≡ epoch.target
-whole_span setup epoch runs =
-    span_whole (case_of setup).steps (case_of setup).snapshot epoch (every_setup_runs setup).valid.scheduled.short_snapshot runs.begins runs.ends
+whole_span setup epoch runs = span_whole epoch (is_short setup epoch runs)
 
 -- and ends within the run
 pub ends_within : (setup : Setup) (epoch : Epoch) → Runs (case_of setup) epoch → epoch.target ≤ (case_of setup).steps
@@ -121,7 +120,7 @@ spans setup =
       first_runs = record { begins = omega arith; ends = refl };
       commit_runs = λ epoch runs goes_on. record { begins = omega (arith, goes_on); ends = refl };
       restore_runs = λ epoch lives runs. record { begins = runs.begins; ends = refl };
-      some_stage = λ epoch runs. let many = rounds_many epoch in omega (arith, many);
+      some_stage = λ epoch runs. let many = rounds_are epoch in omega (arith, many);
       are = λ epoch _. are_leaves c epoch.time runs;
       begins = λ epoch runs. begins_with c epoch (whole_span setup epoch runs);
       ends = λ epoch runs. refl;
@@ -134,66 +133,22 @@ spans setup =
       laid = filter_agree (starts c) (is_filled (blocks_at c 0) (first_home c)) (first_filled c) (range_with_len 0 c.ranks);
     }
 
--- the pieces are the boxes of blocks
-in_domain_tells : (shape : Shape) (v : Voxel) → in_domain shape v ≡ true → InDomain shape v
-in_domain_tells shape v passes =
-    let outer = and_parts (nat_lt v.x (root_edge * shape.nx)) (nat_lt v.y (root_edge * shape.ny) && nat_lt v.z (root_edge * shape.nz)) passes in
-    let inner = and_parts (nat_lt v.y (root_edge * shape.ny)) (nat_lt v.z (root_edge * shape.nz)) outer.1 in
-    record { along_x = below v.x (root_edge * shape.nx) outer.0; along_y = below v.y (root_edge * shape.ny) inner.0; along_z = below v.z (root_edge * shape.nz) inner.1 }
-  where
-    below : (a b : ℕ) → nat_lt a b ≡ true → a < b
-    below a b is = grind (arith, nat_tests)
-
-leaf_holds : (c : Case) (time : ℕ) (owner : BlockId → ℕ) (unit : Voxel) → CanRun c → in_domain c.roots unit ≡ true
-    → count_by (λ key. holds (box_in ((blocks_at c time).item owner key)) unit) (blocks_at c time).keys ≡ 1
-unfolding blocks_at
-leaf_holds c time owner unit runs inside = one_holds c time unit runs (in_domain_tells c.roots unit inside)
-
-pub boxes : (setup : Setup) → HasPieces forest forest_staging block_kind setup pieces box_in (λ local. [])
-boxes setup = record {
-  blind = λ f item unit. refl;
-  of_local = λ local. sym (append-nil (map box_in local.blocks));
-  of_saved = λ side rank home. refl;
-  of_parcel = λ local. refl;
-  parcel_items = λ local. refl;
-  parcel_cargo = λ local. refl;
-  keep_cargo = λ local. refl;
-  fresh_cargo = λ view epoch rank. refl;
-  no_cargo = λ epoch stage view owner rank runs. refl;
-  once = λ epoch stage owner unit runs within. at stage epoch owner unit within;
-}
-  where
-    at : (stage : Stage) (epoch : Epoch) (owner : BlockId → ℕ) (unit : Voxel) → in_domain (case_of setup).roots unit ≡ true
-        → count_by (λ key. holds (box_in ((leaves_in (case_of setup) epoch stage).item owner key)) unit) (leaves_in (case_of setup) epoch stage).keys ≡ 1
-    at (Step time) epoch owner unit within = leaf_holds (case_of setup) time owner unit (every_setup_runs setup) within
-    at Snapshot epoch owner unit within = leaf_holds (case_of setup) epoch.target owner unit (every_setup_runs setup) within
-    at Over epoch owner unit within = leaf_holds (case_of setup) epoch.target owner unit (every_setup_runs setup) within
-
 -- the rounds are the stages
-unmade_from : (time count : ℕ) → All (λ stage. is_made stage ≡ false) (stages_from time count)
-unmade_from time zero = All-cons (λ stage. is_made stage ≡ false) Snapshot [] refl (All-nil (λ stage. is_made stage ≡ false))
-unmade_from time (suc count) = All-cons (λ stage. is_made stage ≡ false) (Step time) (stages_from (time + 1) count) refl (unmade_from (time + 1) count)
-
-all_unmade : (epoch : Epoch) → All (λ stage. is_made stage ≡ false) (stages_of epoch)
-unfolding stages_of
-all_unmade epoch = unmade_from epoch.time (span epoch)
-
 pub staged : (setup : Setup) → IsStaged forest forest_staging setup
 unfolding stage_of
 staged setup = record {
-  rounds = rounds_many;
+  rounds = λ epoch. refl;
   plays = λ epoch round. record { peers = λ local. refl; out = λ local to. refl; take = λ local peer msg. refl; finish = λ local. refl };
-  unmade = all_unmade;
+  unmade = λ epoch. all_stages forest_plan Unmade (λ time. All-cons Unmade (Step time) [] refl (All-nil Unmade)) refl epoch.time (span epoch);
   made = refl;
 }
+  where
+    Unmade : Stage → Type 0
+    Unmade stage = is_made stage ≡ false
 
 -- an epoch has at most 129 rounds
-few_rounds : (epoch : Epoch) → rounds_of epoch < 2 ^ 32
-unfolding span
-few_rounds epoch = at_most (epoch.target - epoch.time)
-  where
-    at_most : (n : ℕ) → min n 128 + 1 < 2 ^ 32
-    at_most n = omega arith
+few_rounds : (epoch : Epoch) → rounds_of forest_plan epoch < 2 ^ 32
+few_rounds epoch = let many = rounds_are epoch in let few = span_few epoch in omega (arith, many, few)
 
 limits : (setup : Setup) → KeepsLimits forest setup
 limits setup =

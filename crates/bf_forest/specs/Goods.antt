@@ -14,7 +14,8 @@ use Rattle.bf_stages.specs.Stages.{telling_of}
 use Rattle.bf_forest.specs.declared.local.ForestLocal.{ForestLocal}
 use Rattle.bf_forest.specs.Meanings.{forest}
 use Rattle.bf_forest.specs.ModelBlocks.{blocks_at}
-use Rattle.bf_forest.specs.Stages.{rounds_of, time_at}
+use Rattle.bf_stages.specs.Plans.{rounds_of}
+use Rattle.bf_forest.specs.Stages.{forest_plan, time_at}
 use Rattle.bf_forest.specs.Staging.{forest_staging}
 
 -- the members' locals at the beginning of a round: those that are told by who owns which block and who has which at home
@@ -29,7 +30,7 @@ local_at c epoch round owner home rank = record {
   blocks = part_of (blocks_at c (time_at epoch round)) owner rank;
   heard = [];
   active = side_at epoch.time epoch.homes c.shift (blocks_at c epoch.time) home rank;
-  spare = if nat_lt round (rounds_of epoch) then bare else side_at epoch.target epoch.members c.shift (blocks_at c epoch.target) owner rank;
+  spare = if nat_lt round (rounds_of forest_plan epoch) then bare else side_at epoch.target epoch.members c.shift (blocks_at c epoch.target) owner rank;
 }
 
 -- the model's ids rise, each leaf has an owner among the members, and each of the agreed snapshot its home, and so are the locals

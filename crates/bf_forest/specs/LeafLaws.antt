@@ -33,13 +33,14 @@ use Rattle.bf_forest.specs.Goods.{IsGood, local_at, AreDealt}
 use Rattle.bf_forest.specs.Leaves.{times_among, AreLeaves}
 use Rattle.bf_forest.specs.Meanings.{forest, with_heard}
 use Rattle.bf_forest.specs.ModelBlocks.{blocks_at, IsBlockAt}
-use Rattle.bf_forest.specs.StageLaws.{stage_step, stage_snapshot, stage_over, time_step, time_end, time_first}
-use Rattle.bf_forest.specs.Stages.{span, rounds_of, stage_of, time_at}
+use Rattle.bf_forest.specs.StageLaws.{rounds_are, stage_step, stage_snapshot, stage_over, time_step, time_end, time_first}
+use Rattle.bf_stages.specs.Plans.{span, rounds_of, stage_of}
+use Rattle.bf_forest.specs.Stages.{forest_plan, time_at}
 use Rattle.bf_forest.specs.Staging.{leaves_in, Runs, forest_staging}
 use Rattle.bf_forest.specs.StepLaws.{model_cells}
 
 -- the leaves at the beginning of a round
-leaves_now : (c : Case) (epoch : Epoch) (round : ℕ) → epoch.time + span epoch ≡ epoch.target → leaves_in c epoch (stage_of epoch round) ≡ blocks_at c (time_at epoch round)
+leaves_now : (c : Case) (epoch : Epoch) (round : ℕ) → epoch.time + span epoch ≡ epoch.target → leaves_in c epoch (stage_of forest_plan epoch round) ≡ blocks_at c (time_at epoch round)
 leaves_now c epoch round whole = elim (cases_lt round (span epoch)) [
   | inl before ↦ ap (leaves_in c epoch) (stage_step epoch round before) ∙ ap (blocks_at c) (sym (time_step epoch round before))
   | inr after ↦ elim (cases_order round (span epoch)) [
@@ -64,11 +65,11 @@ told_is : (setup : Setup) (epoch : Epoch) (round : ℕ) (world : ForestWorld) �
 unfolding stage_of
 told_is setup epoch round world runs rank =
     let c : Case = case_of setup in
-    ap (λ (b : Bool). with_heard (view_at c.shift epoch b (record { now = leaves_in c epoch (stage_of epoch round); agreed = blocks_at c epoch.time; new = blocks_at c epoch.target })
+    ap (λ (b : Bool). with_heard (view_at c.shift epoch b (record { now = leaves_in c epoch (stage_of forest_plan epoch round); agreed = blocks_at c epoch.time; new = blocks_at c epoch.target })
     world.owner world.home rank) []) (made_is forest forest_staging setup (staged setup) epoch round)
-    ∙ ap (λ (ls : Leaves BlockId BlockValue). with_heard (view_at c.shift epoch (not (nat_lt round (rounds_of epoch)))
+    ∙ ap (λ (ls : Leaves BlockId BlockValue). with_heard (view_at c.shift epoch (not (nat_lt round (rounds_of forest_plan epoch)))
     (record { now = ls; agreed = blocks_at c epoch.time; new = blocks_at c epoch.target }) world.owner world.home rank) []) (leaves_now c epoch round (whole_span setup epoch runs))
-    ∙ at (nat_lt round (rounds_of epoch))
+    ∙ at (nat_lt round (rounds_of forest_plan epoch))
   where
     at : (b : Bool) → with_heard (view_at (case_of setup).shift epoch (not b)
         (record { now = blocks_at (case_of setup) (time_at epoch round); agreed = blocks_at (case_of setup) epoch.time; new = blocks_at (case_of setup) epoch.target }) world.owner world.home rank) []
@@ -154,16 +155,16 @@ good_leaves setup epoch round locals good = record {
     has = all_dealt setup epoch round locals good
 
 -- the blocks at the end of an epoch
-pub last_leaves : (setup : Setup) (epoch : Epoch) (locals : List ForestLocal) → IsGood setup epoch (rounds_of epoch) locals
+pub last_leaves : (setup : Setup) (epoch : Epoch) (locals : List ForestLocal) → IsGood setup epoch (rounds_of forest_plan epoch) locals
     → AreLeaves (model (case_of setup) epoch.target) (flat_map (λ (local : ForestLocal). local.blocks) locals)
 unfolding IsGood
 last_leaves setup epoch locals good =
     subst (λ t. AreLeaves (model (case_of setup) t) (flat_map (λ (local : ForestLocal). local.blocks) locals))
-    (time_end epoch (rounds_of epoch) (whole_span setup epoch good.fits.runs) (omega arith)) (good_leaves setup epoch (rounds_of epoch) locals good)
+    (time_end epoch (rounds_of forest_plan epoch) (whole_span setup epoch good.fits.runs) (let many = rounds_are epoch in omega (arith, many))) (good_leaves setup epoch (rounds_of forest_plan epoch) locals good)
 
 -- A COMMIT
-pub all_kept : (setup : Setup) (epoch : Epoch) (locals : List ForestLocal) → IsGood setup epoch (rounds_of epoch) locals → epoch.target < (case_of setup).steps
-    → (owner : BlockId → ℕ) × (home : BlockId → ℕ) × AreDealt (case_of setup) epoch (rounds_of epoch) owner home locals
+pub all_kept : (setup : Setup) (epoch : Epoch) (locals : List ForestLocal) → IsGood setup epoch (rounds_of forest_plan epoch) locals → epoch.target < (case_of setup).steps
+    → (owner : BlockId → ℕ) × (home : BlockId → ℕ) × AreDealt (case_of setup) epoch (rounds_of forest_plan epoch) owner home locals
     × AreDealt (case_of setup) (epoch_after_commit (case_of setup).steps (case_of setup).snapshot epoch) 0 owner owner (map forest.keep locals)
 unfolding IsGood
 all_kept setup epoch locals good goes_on =
@@ -172,7 +173,7 @@ all_kept setup epoch locals good goes_on =
     let placed : Placed setup next 0 after = kept_placed forest forest_staging block_kind setup (staged setup) (sides setup) (spans setup) epoch good.world good.fits goes_on in (
       good.world.owner,
       good.world.home,
-      dealt setup epoch (rounds_of epoch) good.world locals good.fits good.are,
+      dealt setup epoch (rounds_of forest_plan epoch) good.world locals good.fits good.are,
       dealt setup next 0 after (map forest.keep locals) placed
           (ap (map forest.keep) good.are ∙ kept_told forest forest_staging block_kind setup (staged setup) (sides setup) (spans setup) epoch good.world good.fits goes_on),
     )
@@ -206,9 +207,9 @@ all_regained setup epoch round locals lives good none =
     )
 
 -- THE NUMBER OF ROUNDS, and a home that has a block
-pub round_each : (setup : Setup) (epoch : Epoch) (round : ℕ) (locals : List ForestLocal) → IsGood setup epoch round locals → rounds_of epoch ≡ epoch.target - epoch.time + 1
+pub round_each : (setup : Setup) (epoch : Epoch) (round : ℕ) (locals : List ForestLocal) → IsGood setup epoch round locals → rounds_of forest_plan epoch ≡ epoch.target - epoch.time + 1
 unfolding IsGood
-round_each setup epoch round locals good = let whole = whole_span setup epoch good.fits.runs in omega (arith, whole)
+round_each setup epoch round locals good = let whole = whole_span setup epoch good.fits.runs in let many = rounds_are epoch in omega (arith, many, whole)
 
 pub ends_at : (setup : Setup) (epoch : Epoch) (round : ℕ) (locals : List ForestLocal) → IsGood setup epoch round locals
     → epoch.target ≡ target_in (case_of setup).steps (case_of setup).snapshot epoch

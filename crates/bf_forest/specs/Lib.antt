@@ -12,6 +12,7 @@ pub mod Leaves
 pub mod Places
 pub mod Known
 pub mod Ready
+pub mod BoxLaws
 pub mod RoundLaws
 pub mod ForestLaws
 pub mod LeafLaws

@@ -16,8 +16,9 @@ use Rattle.bf_block.specs.declared.setup.Setup.{Setup}
 use Rattle.bf_block.specs.Setup.{case_of}
 use Rattle.bf_block.specs.Block.{BlockValue, initial_block}
 use Rattle.bf_parts.specs.declared.side.Side.{Side}
-use Rattle.bf_parts.specs.Merges.{regained}
-use Rattle.bf_parts.specs.Sides.{bare, gives, source_of, has_items, saved_of, is_given}
+use Rattle.bf_parts.specs.SnapshotRounds.{filled_view}
+use Rattle.bf_parts.specs.Spreads.{restored_view}
+use Rattle.bf_parts.specs.Sides.{bare, gives, has_items, saved_of, is_given}
 use Rattle.bf_parts.specs.Views.{View, stored_of}
 use Rattle.bf_forest.specs.declared.local.ForestLocal.{ForestLocal}
 use Rattle.bf_forest.specs.declared.message.ForestMessage.{ForestMessage}
@@ -27,7 +28,8 @@ use Rattle.bf_forest.specs.declared.stage.Stage.TheVariants.{Step, Snapshot, Ove
 use Rattle.bf_forest.specs.Gathered.{stepped_among}
 use Rattle.bf_block.specs.Kinds.{block_kind}
 use Rattle.bf_forest.specs.Starts.{starts}
-use Rattle.bf_forest.specs.Stages.{rounds_of, stage_of}
+use Rattle.bf_stages.specs.Plans.{rounds_of, stage_of}
+use Rattle.bf_forest.specs.Stages.{forest_plan}
 
 -- a local but for what it has heard
 abbrev pub view_of : ForestLocal → View BlockValue
@@ -52,26 +54,12 @@ heard_of local (SnapshotMessage (Some part)) = record local { spare = record loc
 -- the local at the end of a round
 unfoldable pub ended : Stage → Case → Epoch → ForestLocal → ForestLocal
 ended (Step time) c epoch local = record local { blocks = stepped_among c (local.blocks ++ local.heard) local.blocks; heard = [] }
-ended Snapshot c epoch local = record local {
-  spare = record {
-    time = epoch.target;
-    homes = epoch.members;
-    source = source_of epoch.members c.shift local.rank;
-    own = local.blocks;
-    other = local.spare.other;
-  };
-}
+ended Snapshot c epoch local = record local { spare = (filled_view c.shift epoch (view_of local)).spare }
 ended Over c epoch local = local
 
 -- a rank's local after a restore: it goes on with its own part, and with its predecessor's where that is dead, in one rising list
 unfoldable pub restored : Side BlockValue → (shift rank : ℕ) → (live : List ℕ) → ForestLocal
-restored side shift rank live = record {
-  rank = rank;
-  blocks = regained block_kind side shift live;
-  heard = [];
-  active = side;
-  spare = bare;
-}
+restored side shift rank live = with_heard (restored_view block_kind shift side rank live) []
 
 -- the roots that begin at a rank, filled
 unfoldable pub first_blocks : Case → (rank : ℕ) → List BlockValue
@@ -118,11 +106,11 @@ forest = record {
   shift = λ setup. (case_of setup).shift;
   interval = λ setup. (case_of setup).snapshot;
   deaths = λ setup. (case_of setup).dies;
-  rounds = λ setup epoch. rounds_of epoch;
+  rounds = λ setup epoch. rounds_of forest_plan epoch;
   peers = λ setup local epoch round. without epoch.members local.rank;
-  out = λ setup local epoch round to. (local, told (stage_of epoch round) epoch.members (case_of setup).shift local to);
+  out = λ setup local epoch round to. (local, told (stage_of forest_plan epoch round) epoch.members (case_of setup).shift local to);
   take = λ setup local epoch round peer msg. heard_of local msg;
-  finish = λ setup local epoch round. ended (stage_of epoch round) (case_of setup) epoch local;
+  finish = λ setup local epoch round. ended (stage_of forest_plan epoch round) (case_of setup) epoch local;
   filled = λ local. has_items local.spare.own;
   parcel = λ local. (record local { blocks = [] }, local.blocks);
   keep = λ local. record local { active = local.spare; spare = bare };

@@ -1,7 +1,6 @@
 -- The stages of an epoch lead to each other: steps to the next blocks of the model, and the last to the new snapshot.
 use Rattle.std.proofs.Common.{◌≡◌, ℕ, zero, suc, ◌+◌, Bool, true, false, List, [], ◌∷◌, ◌++◌, flat_map, map, arith, refl, sym, ap, ◌∙◌, subst}
 use Rattle.std.specs.Prelude.{◌==◌, not, Some, None, Option}
-use Rattle.std.proofs.lemmas.Bool.{eq-eqb}
 use Rattle.std.proofs.Math.Nat.{add-zero}
 use Rattle.bf_buddy.specs.Members.{without}
 use Rattle.bf_program.specs.declared.epoch.Epoch.{Epoch}
@@ -12,18 +11,18 @@ use Rattle.bf_case.specs.declared.case.Case.{Case}
 use Rattle.bf_block.specs.declared.setup.Setup.{Setup}
 use Rattle.bf_block.specs.Setup.{case_of, every_setup_runs}
 use Rattle.bf_block.specs.Block.{BlockValue}
-use Rattle.bf_lemmas.proofs.Tests.{eqb_swap}
 use Rattle.bf_parts.specs.CoverLaws.{count_mapped}
 use Rattle.bf_parts.specs.Leaves.{Leaves, AreAmong, part_of}
 use Rattle.bf_parts.specs.Spreads.{view_at}
 use Rattle.bf_parts.specs.Views.{View}
-use Rattle.bf_rounds.specs.Gathering.{AreMutual, Gathers, gathered}
+use Rattle.bf_rounds.specs.Gathering.{Gathers, gathered}
 use Rattle.bf_rounds.specs.Delivering.{as_delivery}
 use Rattle.bf_rounds.specs.Leading.{LeadsBy, IsPartOf, Weighs}
-use Rattle.bf_stages.specs.Snapshots.{sees_others, snapshot_play, snapshot_course, heard_part}
-use Rattle.bf_stages.specs.Stages.{World, Chain, Follows, HasStages, IsPlacedAt}
-use Rattle.bf_rounds.proofs.LeadLemmas.{gathers_by, part_by, weighs_conserves}
-use Rattle.bf_stages.proofs.SnapshotLemmas.{snapshot_by, others_sight}
+use Rattle.bf_stages.specs.Snapshots.{sees_others, snapshot_play, heard_part}
+use Rattle.bf_stages.specs.Stages.{World, Follows, HasStages, IsPlacedAt}
+use Rattle.bf_rounds.proofs.LeadLemmas.{gathers_by, weighs_conserves}
+use Rattle.bf_stages.proofs.SnapshotLemmas.{others_sight, others_mutual}
+use Rattle.bf_stages.proofs.StageLemmas.{snapshot_follows}
 use Rattle.bf_forest.specs.declared.local.ForestLocal.{ForestLocal}
 use Rattle.bf_forest.specs.declared.message.ForestMessage.{ForestMessage}
 use Rattle.bf_forest.specs.declared.message.ForestMessage.TheVariants.{Step as StepMessage, Snapshot as SnapshotMessage}
@@ -33,17 +32,13 @@ use Rattle.bf_forest.specs.BlockLaws.{known_to, known_are, known_roots, owned_ne
 use Rattle.bf_forest.specs.Gathered.{advanced, stepped_among}
 use Rattle.bf_forest.specs.Meanings.{forest, pieces, box_in, with_heard, told, heard_of, ended}
 use Rattle.bf_forest.specs.ModelBlocks.{blocks_at}
-use Rattle.bf_forest.specs.StageLaws.{span_whole}
-use Rattle.bf_forest.specs.Stages.{span, stages_from, stages_of}
-use Rattle.bf_forest.specs.Staging.{play_of, is_made, leaves_in, trio_in, local_in, told_blocks, course_in, forest_staging}
-
--- peers are all others
-others_mutual : (members : List ℕ) → AreMutual members (λ rank other. not (other == rank)) (without members)
-others_mutual members = record {
-  are = λ rank is_in. refl;
-  apart = λ rank. ap not (eq-eqb rank rank refl);
-  both = λ rank other is_in other_in seen. ap not (eqb_swap rank other) ∙ seen;
-}
+use Rattle.bf_stages.specs.Plans.{IsShort}
+use Rattle.bf_stages.proofs.PlanLemmas.{plan_chain}
+use Rattle.bf_block.specs.Kinds.{block_kind}
+use Rattle.bf_forest.specs.BoxLaws.{boxes}
+use Rattle.bf_forest.specs.StageLaws.{short_epoch}
+use Rattle.bf_forest.specs.Stages.{forest_plan}
+use Rattle.bf_forest.specs.Staging.{play_of, is_made, leaves_in, trio_in, local_in, told_blocks, course_in, Runs, forest_staging}
 
 -- WHAT A CALL WEIGHS: no box comes or goes
 abbrev pub weight : Voxel → ForestLocal → ℕ
@@ -150,35 +145,28 @@ module _ (setup : Setup) (epoch : Epoch) where
       at view None = refl
       at view (Some part) = refl
 
-  snapshot_leads : (world : World BlockId) → IsPlacedAt forest forest_staging setup epoch Snapshot world
-      → LeadsBy (as_delivery (play_of case epoch Snapshot)) epoch.members (course_in case epoch Snapshot world) (λ rank. local_in case epoch Snapshot world rank [])
-      (λ rank. local_in case epoch Over world rank [])
-  snapshot_leads world placed =
-      part_by (as_delivery (snapshot_play sees_others case.shift epoch)) (as_delivery (play_of case epoch Snapshot)) (λ rank view. with_heard view []) (λ rank view. with_heard view []) SnapshotMessage
-      snapshot_part epoch.members (snapshot_course sees_others case.shift epoch (trio_in case epoch Snapshot) world.owner world.home)
-      (view_at case.shift epoch false (trio_in case epoch Snapshot) world.owner world.home) (view_at case.shift epoch true (trio_in case epoch Snapshot) world.owner world.home)
-      (snapshot_by sees_others case.shift epoch (others_sight case.shift epoch.members) (trio_in case epoch Snapshot) refl world.owner world.home placed.held.members_rise)
-
-  snapshot_follows : LeadsTo Snapshot Over
-  snapshot_follows = record {
-    leads = snapshot_leads;
-    owned = λ world placed. placed.owned;
+  snapshot_leads : Runs case epoch → LeadsTo Snapshot Over
+  snapshot_leads runs = snapshot_follows forest forest_staging setup pieces epoch Snapshot Over block_kind box_in (λ local. []) (λ view heard. refl) (boxes setup) runs sees_others SnapshotMessage (record {
+    sight = others_sight case.shift epoch.members;
+    part = λ world. snapshot_part;
+    course_is = λ world. refl;
+    leaves = refl;
+    leaves_after = refl;
+    unmade = refl;
+    made = refl;
+    stays = λ owner. refl;
+    work = λ owner rank. refl;
     also = λ world placed. tt;
-    conserves = λ world unit placed.
-        weighs_conserves (weight unit) (λ msg. times pieces (pieces.of_message msg) unit) (as_delivery (play_of case epoch Snapshot)) (forest_weighs unit case epoch Snapshot) epoch.members
-        (course_in case epoch Snapshot world) (λ rank. local_in case epoch Snapshot world rank []) (λ rank. local_in case epoch Over world rank []) (snapshot_leads world placed);
-  }
+    light = λ word unit. refl;
+  })
 
-  -- step by step
-  chain_from : (time count : ℕ) → time + count ≡ epoch.target → Chain LeadsTo (stages_from time count) Over
-  chain_from time zero whole = (snapshot_follows, tt)
-  chain_from time (suc zero) whole =
-      let e : epoch.target ≡ time + 1 = omega (arith, whole) in
-      (step_follows time Snapshot refl (ap (blocks_at case) e), (snapshot_follows, tt))
-  chain_from time (suc (suc count)) whole = (step_follows time (Step (time + 1)) refl refl, chain_from (time + 1) (suc count) (omega (arith, whole)))
+-- the epochs that come up are short
+pub is_short : (setup : Setup) (epoch : Epoch) → Runs (case_of setup) epoch → IsShort epoch
+is_short setup epoch runs = short_epoch (case_of setup).steps (case_of setup).snapshot epoch (every_setup_runs setup).valid.scheduled.short_snapshot runs.begins runs.ends
 
 pub has_stages : (setup : Setup) → HasStages forest forest_staging setup pieces
-unfolding stages_of
 has_stages setup epoch runs =
-    chain_from setup epoch epoch.time (span epoch)
-    (span_whole (case_of setup).steps (case_of setup).snapshot epoch (every_setup_runs setup).valid.scheduled.short_snapshot runs.begins runs.ends)
+    plan_chain forest_plan (LeadsTo setup epoch) Step (λ time other. refl) epoch (is_short setup epoch runs)
+    (λ time. (step_follows setup epoch time (Step (time + 1)) refl refl, tt))
+    (λ time last. (step_follows setup epoch time Snapshot refl (ap (blocks_at (case_of setup)) (sym last)), tt))
+    (snapshot_leads setup epoch runs)

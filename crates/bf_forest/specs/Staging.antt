@@ -24,7 +24,8 @@ use Rattle.bf_forest.specs.declared.stage.Stage.{Stage}
 use Rattle.bf_forest.specs.declared.stage.Stage.TheVariants.{Step, Snapshot, Over}
 use Rattle.bf_forest.specs.Meanings.{view_of, with_heard, told, heard_of, ended}
 use Rattle.bf_forest.specs.ModelBlocks.{blocks_at}
-use Rattle.bf_forest.specs.Stages.{stages_of}
+use Rattle.bf_stages.specs.Plans.{stages_of}
+use Rattle.bf_forest.specs.Stages.{forest_plan}
 
 -- all other members are peers
 abbrev pub play_of : Case → Epoch → Stage → Play ForestLocal ForestMessage
@@ -79,7 +80,7 @@ forest_staging = record {
   Runs = λ setup. Runs (case_of setup);
   Also = λ setup epoch stage owner. Unit {0};
   fresh = λ setup epoch rank. [];
-  stages = λ setup. stages_of;
+  stages = λ setup. stages_of forest_plan;
   last = Over;
   made = is_made;
   play = λ setup epoch stage. as_delivery (play_of (case_of setup) epoch stage);

@@ -20,7 +20,8 @@ ghost use Rattle.bf_forest.specs.declared.message.ForestMessage.{ForestMessage};
 ghost use Rattle.bf_forest.specs.Goods.{IsGood, AreDealt};
 ghost use Rattle.bf_forest.specs.Leaves.{AreLeaves};
 ghost use Rattle.bf_forest.specs.Meanings.{forest, pieces};
-ghost use Rattle.bf_forest.specs.Stages.{rounds_of, time_at};
+ghost use Rattle.bf_stages.specs.Plans.{rounds_of};
+ghost use Rattle.bf_forest.specs.Stages.{forest_plan, time_at};
 ghost use Rattle.bf_forest.specs.Staging.{forest_staging};
 
 use crate::Forest;
@@ -40,13 +41,13 @@ pub fn the_opening_is_good()
 /// the roots.
 pub fn a_round_keeps_a_good_vector()
     ensures { (setup : Setup) (epoch : Epoch) (round : ℕ) (locals : List ForestLocal) → IsGood setup epoch round locals
-        → round < rounds_of epoch → IsGood setup epoch (round + 1) (next_locals forest setup epoch round locals) }
+        → round < rounds_of forest_plan epoch → IsGood setup epoch (round + 1) (next_locals forest setup epoch round locals) }
 {}
 
 /// So from a good start the ranks stay good through the rounds of an epoch.
 pub fn the_forest_stays_good()
     ensures { (setup : Setup) (epoch : Epoch) (start : List ForestLocal) (round : ℕ) → IsGood setup epoch 0 start
-        → round ≤ rounds_of epoch → IsGood setup epoch round (lockstep forest setup epoch start round) }
+        → round ≤ rounds_of forest_plan epoch → IsGood setup epoch round (lockstep forest setup epoch start round) }
 {
     the_lockstep_stays_good::<Forest>();
 }
@@ -68,15 +69,15 @@ pub fn each_member_has_its_blocks_in_order()
 
 /// Once all rounds are done, what the members give are the leaves of the model's map at the epoch's target.
 pub fn an_epoch_ends_at_the_model()
-    ensures { (setup : Setup) (epoch : Epoch) (locals : List ForestLocal) → IsGood setup epoch (rounds_of epoch) locals
+    ensures { (setup : Setup) (epoch : Epoch) (locals : List ForestLocal) → IsGood setup epoch (rounds_of forest_plan epoch) locals
         → AreLeaves (model (case_of setup) epoch.target) (flat_map (λ (local : ForestLocal). (forest.parcel local).1) locals) }
 {}
 
 /// After a commit each member goes on with the blocks that it has, and is their home in the new agreed snapshot.
 pub fn a_commit_makes_owners_homes()
-    ensures { (setup : Setup) (epoch : Epoch) (locals : List ForestLocal) → IsGood setup epoch (rounds_of epoch) locals
+    ensures { (setup : Setup) (epoch : Epoch) (locals : List ForestLocal) → IsGood setup epoch (rounds_of forest_plan epoch) locals
         → epoch.target < (case_of setup).steps
-        → (owner : BlockId → ℕ) × (home : BlockId → ℕ) × AreDealt (case_of setup) epoch (rounds_of epoch) owner home locals
+        → (owner : BlockId → ℕ) × (home : BlockId → ℕ) × AreDealt (case_of setup) epoch (rounds_of forest_plan epoch) owner home locals
         × AreDealt (case_of setup) (epoch_after_commit (case_of setup).steps (case_of setup).snapshot epoch) 0 owner owner (map forest.keep locals) }
 {}
 
@@ -120,7 +121,7 @@ pub fn a_finisher_knows_its_local()
 /// lays the copies again.
 pub fn an_epoch_has_a_round_for_each_step()
     ensures rounds { (setup : Setup) (epoch : Epoch) (round : ℕ) (locals : List ForestLocal) → IsGood setup epoch round locals
-        → rounds_of epoch ≡ epoch.target - epoch.time + 1 }
+        → rounds_of forest_plan epoch ≡ epoch.target - epoch.time + 1 }
     ensures target { (setup : Setup) (epoch : Epoch) (round : ℕ) (locals : List ForestLocal) → IsGood setup epoch round locals
         → epoch.target ≡ target_in (case_of setup).steps (case_of setup).snapshot epoch }
 {}

@@ -6,3 +6,4 @@ pub mod SnapshotLemmas
 pub mod MoveLemmas
 pub mod HeirLemmas
 pub mod StageLemmas
+pub mod PlanLemmas

@@ -5,7 +5,7 @@ use Rattle.std.specs.List.{fold, count_by}
 use Rattle.std.specs.List.Sorted.{IsStrictlyIncreasing}
 use Rattle.std.proofs.lemmas.Bool.{eqb-true, eqb-false, eq-eqb}
 use Rattle.std.proofs.Math.Nat.{add-zero}
-use Rattle.bf_buddy.specs.Members.{is_member}
+use Rattle.bf_buddy.specs.Members.{is_member, without}
 use Rattle.bf_buddy.specs.Buddy.{predecessor_of}
 use Rattle.bf_program.specs.declared.epoch.Epoch.{Epoch}
 use Rattle.bf_buddy.proofs.MemberLemmas.{member_filter}
@@ -39,6 +39,14 @@ one_heard {A = A} part source was (peer ∷ peers) = one_heard part source (cond
     at true true same = refl
     at true false same = ap part (eqb-true peer source same)
     at false c other = refl
+
+-- whom ranks see are peers
+pub sight_mutual : (shift : ℕ) (sees : (members : List ℕ) → (rank other : ℕ) → Bool) (members : List ℕ) → IsSight shift sees members → AreMutual members (sees members) (λ rank. filter (sees members rank) members)
+sight_mutual shift sees members sight = record {
+  are = λ rank is_in. refl;
+  apart = sight.apart;
+  both = λ rank other is_in other_in seen. sight.both rank other seen;
+}
 
 module _ {K I : Type 0} (sees : (members : List ℕ) → (rank other : ℕ) → Bool) (shift : ℕ) (epoch : Epoch) (sight : IsSight shift sees epoch.members) (leaves : Trio K I) (same : leaves.now ≡ leaves.new) (owner home_of : K → ℕ) (up : IsStrictlyIncreasing epoch.members) where
   abbrev members : List ℕ
@@ -113,17 +121,10 @@ module _ {K I : Type 0} (sees : (members : List ℕ) → (rank other : ℕ) → 
       at rank peer heard false = ap (λ (x : List I). record (holding_part shift epoch leaves owner home_of rank heard) { spare = record (holding_part shift epoch leaves owner home_of rank heard).spare { other = x } })
           (sym (last_kept [] heard))
 
-  pub snapshot_mutual : AreMutual epoch.members (sees epoch.members) (λ rank. filter (sees epoch.members rank) epoch.members)
-  snapshot_mutual = record {
-    are = λ rank is_in. refl;
-    apart = sight.apart;
-    both = λ rank other is_in other_in seen. sight.both rank other seen;
-  }
-
   pub snapshot_by : LeadsBy (as_delivery (snapshot_play sees shift epoch)) epoch.members (snapshot_course sees shift epoch leaves owner home_of) (view_at shift epoch false leaves owner home_of)
       (view_at shift epoch true leaves owner home_of)
   snapshot_by = gathers_by (snapshot_play sees shift epoch) parts_in (holding_part shift epoch leaves owner home_of) epoch.members (view_at shift epoch false leaves owner home_of)
-      (view_at shift epoch true leaves owner home_of) (sees epoch.members) up snapshot_mutual snapshot_gathers
+      (view_at shift epoch true leaves owner home_of) (sees epoch.members) up (sight_mutual shift sees epoch.members sight) snapshot_gathers
 
 pub paired_sight : (shift : ℕ) (ranks : List ℕ) → IsSight shift (sees_paired shift) ranks
 paired_sight shift ranks = record {
@@ -142,6 +143,9 @@ others_sight shift ranks = record {
     at : (from to : ℕ) → from ≢ to → (b : Bool) → (from == to) ≡ b → not b ≡ true
     at from to apart true same = absurd (apart (eqb-true from to same))
     at from to apart false other = refl
+
+pub others_mutual : (members : List ℕ) → AreMutual members (sees_others members) (without members)
+others_mutual members = sight_mutual 0 sees_others members (others_sight 0 members)
 
 -- copies weigh nothing
 pub snapshot_weighs : {I : Type 0} (sees : (members : List ℕ) → (rank other : ℕ) → Bool) (shift : ℕ) (epoch : Epoch) (test : I → Bool) → Weighs (λ (view : View I). count_by test view.items) (λ msg. 0) (as_delivery (snapshot_play sees shift epoch))

@@ -5,13 +5,13 @@ use Rattle.std.specs.List.{flat_map, range_with_len, count_by}
 use Rattle.bf_program.specs.declared.epoch.Epoch.{Epoch}
 use Rattle.bf_program.specs.Laws.{times, KeepsGood, KeepsLimits, Laws}
 use Rattle.bf_program.specs.Meanings.{Meanings, Regions}
-use Rattle.bf_rounds.proofs.LeadLemmas.{lens_part, leads_same, conserves_same, alone_by, part_by, part_conserves, still_conserves, weighs_conserves}
+use Rattle.bf_rounds.proofs.LeadLemmas.{leads_same, conserves_same, alone_by, part_by, part_conserves, still_conserves, weighs_conserves}
 use Rattle.bf_rounds.proofs.PointLemmas.{peers_told}
 use Rattle.bf_rounds.proofs.StartLemmas.{goods_told}
 use Rattle.bf_rounds.specs.Canonical.{IsTold, KeepsTelling}
 use Rattle.bf_rounds.specs.Courses.{Course}
 use Rattle.bf_rounds.specs.Delivering.{Delivery, as_delivery}
-use Rattle.bf_rounds.specs.Leading.{LeadsBy, IsPartOf, Lens, through, alone, lifted, Conserves}
+use Rattle.bf_rounds.specs.Leading.{LeadsBy, Lens, through, alone, lifted, Conserves}
 use Rattle.bf_parts.specs.declared.side.Side.{Side}
 use Rattle.bf_parts.specs.Counts.{count_append}
 use Rattle.bf_parts.specs.CoverLaws.{count_mapped}
@@ -121,8 +121,8 @@ module _ {S K I L N M T G B U : Type 0} (m : Meanings S L M T (Side I)) (st : St
   }
 
   -- the snapshot
-  module _ (kind : Kind I) (box : I → B) (cargo : L → List B) (seen : (view : View I) (work : N) → st.look (st.put view work) ≡ view) (pieces : HasPieces m st kind setup regions box cargo) (runs : st.Runs setup epoch) (sees : (members : List ℕ) → (rank other : ℕ) → Bool) (lens : Lens L (View I) M (Option (List I)))
-      (is : IsSnapshotStage m st setup regions sees epoch stage next lens) where
+  module _ (kind : Kind I) (box : I → B) (cargo : L → List B) (seen : (view : View I) (work : N) → st.look (st.put view work) ≡ view) (pieces : HasPieces m st kind setup regions box cargo) (runs : st.Runs setup epoch)
+      (sees : (members : List ℕ) → (rank other : ℕ) → Bool) (wrap : Option (List I) → M) (is : IsSnapshotStage m st setup regions sees epoch stage next wrap) where
     abbrev trio_now : Trio K I
     trio_now = trio_of m st setup epoch stage
 
@@ -145,13 +145,11 @@ module _ {S K I L N M T G B U : Type 0} (m : Meanings S L M T (Side I)) (st : St
         sides_seen view world rank = seen view (st.work setup epoch stage world.owner rank)
 
     pub snapshot_follows : Follows m st setup regions epoch stage next
-    snapshot_follows = part_follows (as_delivery (snapshot_play sees (m.shift setup) epoch)) held held lens.wrap (λ world. snapshot_course sees (m.shift setup) epoch trio_now world.owner world.home)
+    snapshot_follows = part_follows (as_delivery (snapshot_play sees (m.shift setup) epoch)) held held wrap (λ world. snapshot_course sees (m.shift setup) epoch trio_now world.owner world.home)
         (λ world rank. view_at (m.shift setup) epoch false trio_now world.owner world.home rank) (λ world rank. view_at (m.shift setup) epoch true trio_now world.owner world.home rank)
         (λ unit view. count_by (λ item. regions.holds (box item) unit) view.items) (λ unit word. 0) (λ unit world rank. 0)
         (record {
-          part = λ world. subst (λ (play : Delivery L M). IsPartOf (as_delivery (snapshot_play sees (m.shift setup) epoch)) play (held world) (held world) lens.wrap) (sym is.play_is)
-              (lens_part lens (as_delivery (snapshot_play sees (m.shift setup) epoch)) (held world)
-              (record { taken = λ rank n. is.taken n (st.work setup epoch stage world.owner rank); given = λ rank n now. is.given n now (st.work setup epoch stage world.owner rank); read = is.read }));
+          part = is.part;
           course_is = is.course_is;
           before_is = λ world rank placed member. ap (λ (b : Bool). held world rank (view_at (m.shift setup) epoch b trio_now world.owner world.home rank)) (sym is.unmade);
           after_is = λ world rank placed member.

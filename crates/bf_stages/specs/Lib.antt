@@ -1,3 +1,4 @@
 pub mod Snapshots
 pub mod Moves
 pub mod Stages
+pub mod Plans

@@ -10,7 +10,7 @@ use Rattle.bf_program.specs.Restores.{restored_epoch}
 use Rattle.bf_rounds.specs.Canonical.{Telling}
 use Rattle.bf_rounds.specs.Courses.{Course}
 use Rattle.bf_rounds.specs.Delivering.{Delivery, as_delivery, PlaysDelivery}
-use Rattle.bf_rounds.specs.Leading.{LeadsBy, IsPartOf, alone, lifted, Lens, through, Weighs, Conserves}
+use Rattle.bf_rounds.specs.Leading.{LeadsBy, IsPartOf, alone, lifted, Weighs, Conserves}
 use Rattle.bf_parts.specs.declared.side.Side.{Side}
 use Rattle.bf_parts.specs.Leaves.{Kind, Leaves, AreLeaves, AreAmong, part_of, is_filled, side_at}
 use Rattle.bf_parts.specs.Sides.{bare, has_items, is_given, saved_of}
@@ -157,13 +157,11 @@ module _ {S K I L N M T G : Type 0} (m : Meanings S L M T (Side I)) (st : Stagin
           → times regions (regions.of_local (local_of_stage m st setup epoch next (after_stage m st setup epoch stage world) rank)) unit ≡ times regions (regions.of_local (local_of_stage m st setup epoch stage world rank)) unit
 
     -- a stage in which the snapshot is made
-    pub record IsSnapshotStage (sees : (members : List ℕ) → (rank other : ℕ) → Bool) (epoch : Epoch) (stage next : G) (lens : Lens L (View I) M (Option (List I))) : Type 0 where
+    pub record IsSnapshotStage (sees : (members : List ℕ) → (rank other : ℕ) → Bool) (epoch : Epoch) (stage next : G) (wrap : Option (List I) → M) : Type 0 where
       pub sight : IsSight (m.shift setup) sees epoch.members
-      pub play_is : st.play setup epoch stage ≡ through lens (as_delivery (snapshot_play sees (m.shift setup) epoch))
-      pub taken : (view : View I) (work : N) → lens.take (st.put view work) ≡ view
-      pub given : (view now : View I) (work : N) → lens.give (st.put view work) now ≡ st.put now work
-      pub read : (word : Option (List I)) → lens.unwrap (lens.wrap word) ≡ word
-      pub course_is : (world : World K) → st.course setup epoch stage world ≡ lifted (λ rank view. st.put view (st.work setup epoch stage world.owner rank)) lens.wrap
+      pub part : (world : World K) → IsPartOf (as_delivery (snapshot_play sees (m.shift setup) epoch)) (st.play setup epoch stage) (λ rank view. st.put view (st.work setup epoch stage world.owner rank))
+          (λ rank view. st.put view (st.work setup epoch stage world.owner rank)) wrap
+      pub course_is : (world : World K) → st.course setup epoch stage world ≡ lifted (λ rank view. st.put view (st.work setup epoch stage world.owner rank)) wrap
           (snapshot_course sees (m.shift setup) epoch (trio_of m st setup epoch stage) world.owner world.home)
       pub leaves : st.leaves setup epoch stage ≡ st.at setup epoch.target
       pub leaves_after : st.leaves setup epoch next ≡ st.at setup epoch.target
@@ -172,7 +170,7 @@ module _ {S K I L N M T G : Type 0} (m : Meanings S L M T (Side I)) (st : Stagin
       pub stays : (owner : K → ℕ) → st.moved setup epoch stage owner ≡ owner
       pub work : (owner : K → ℕ) (rank : ℕ) → st.work setup epoch next owner rank ≡ st.work setup epoch stage owner rank
       pub also : (world : World K) → IsPlacedAt m st setup epoch stage world → st.Also setup epoch next world.owner
-      pub light : (word : Option (List I)) (unit : U) → times regions (regions.of_message (lens.wrap word)) unit ≡ 0
+      pub light : (word : Option (List I)) (unit : U) → times regions (regions.of_message (wrap word)) unit ≡ 0
 
 -- a play leaves the side of the agreed snapshot
 pub record KeepsSide {L M I : Type 0} (look : L → View I) (play : Delivery L M) : Type 0 where

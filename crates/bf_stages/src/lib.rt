@@ -10,3 +10,6 @@
 #![tactic(auto)]
 
 pub mod laws;
+mod spans;
+
+pub use spans::span;

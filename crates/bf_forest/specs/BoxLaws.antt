@@ -1,0 +1,58 @@
+-- The pieces are the boxes of blocks, which tile the domain.
+use Rattle.std.proofs.Common.{◌≡◌, ℕ, ◌*◌, ◌<◌, Bool, true, List, [], map, arith, refl, sym}
+use Rattle.std.specs.Prelude.{◌&&◌, nat_lt}
+use Rattle.std.specs.List.{count_by}
+use Rattle.std.proofs.lemmas.Bool.{and_parts}
+use Rattle.std.proofs.lemmas.Bool.Decides.{nat_tests}
+use Rattle.std.proofs.lemmas.List.{append-nil}
+use Rattle.bf_program.specs.declared.epoch.Epoch.{Epoch}
+use Rattle.bf_id.specs.declared.shape.Shape.{Shape}
+use Rattle.bf_id.specs.Cube.{Voxel, holds}
+use Rattle.bf_id.specs.Id.{BlockId}
+use Rattle.bf_id.specs.Shape.{InDomain, root_edge}
+use Rattle.bf_case.specs.declared.case.Case.{Case}
+use Rattle.bf_block.specs.declared.setup.Setup.{Setup}
+use Rattle.bf_block.specs.Kinds.{block_kind}
+use Rattle.bf_block.specs.Runs.{CanRun}
+use Rattle.bf_block.specs.Setup.{case_of, every_setup_runs}
+use Rattle.bf_stages.specs.Stages.{HasPieces}
+use Rattle.bf_forest.specs.declared.stage.Stage.{Stage}
+use Rattle.bf_forest.specs.declared.stage.Stage.TheVariants.{Step, Snapshot, Over}
+use Rattle.bf_forest.specs.BlockLaws.{one_holds}
+use Rattle.bf_forest.specs.Meanings.{forest, pieces, box_in, in_domain}
+use Rattle.bf_forest.specs.ModelBlocks.{blocks_at}
+use Rattle.bf_forest.specs.Staging.{leaves_in, forest_staging}
+
+in_domain_tells : (shape : Shape) (v : Voxel) → in_domain shape v ≡ true → InDomain shape v
+in_domain_tells shape v passes =
+    let outer = and_parts (nat_lt v.x (root_edge * shape.nx)) (nat_lt v.y (root_edge * shape.ny) && nat_lt v.z (root_edge * shape.nz)) passes in
+    let inner = and_parts (nat_lt v.y (root_edge * shape.ny)) (nat_lt v.z (root_edge * shape.nz)) outer.1 in
+    record { along_x = below v.x (root_edge * shape.nx) outer.0; along_y = below v.y (root_edge * shape.ny) inner.0; along_z = below v.z (root_edge * shape.nz) inner.1 }
+  where
+    below : (a b : ℕ) → nat_lt a b ≡ true → a < b
+    below a b is = grind (arith, nat_tests)
+
+leaf_holds : (c : Case) (time : ℕ) (owner : BlockId → ℕ) (unit : Voxel) → CanRun c → in_domain c.roots unit ≡ true
+    → count_by (λ key. holds (box_in ((blocks_at c time).item owner key)) unit) (blocks_at c time).keys ≡ 1
+unfolding blocks_at
+leaf_holds c time owner unit runs inside = one_holds c time unit runs (in_domain_tells c.roots unit inside)
+
+pub boxes : (setup : Setup) → HasPieces forest forest_staging block_kind setup pieces box_in (λ local. [])
+boxes setup = record {
+  blind = λ f item unit. refl;
+  of_local = λ local. sym (append-nil (map box_in local.blocks));
+  of_saved = λ side rank home. refl;
+  of_parcel = λ local. refl;
+  parcel_items = λ local. refl;
+  parcel_cargo = λ local. refl;
+  keep_cargo = λ local. refl;
+  fresh_cargo = λ view epoch rank. refl;
+  no_cargo = λ epoch stage view owner rank runs. refl;
+  once = λ epoch stage owner unit runs within. at stage epoch owner unit within;
+}
+  where
+    at : (stage : Stage) (epoch : Epoch) (owner : BlockId → ℕ) (unit : Voxel) → in_domain (case_of setup).roots unit ≡ true
+        → count_by (λ key. holds (box_in ((leaves_in (case_of setup) epoch stage).item owner key)) unit) (leaves_in (case_of setup) epoch stage).keys ≡ 1
+    at (Step time) epoch owner unit within = leaf_holds (case_of setup) time owner unit (every_setup_runs setup) within
+    at Snapshot epoch owner unit within = leaf_holds (case_of setup) epoch.target owner unit (every_setup_runs setup) within
+    at Over epoch owner unit within = leaf_holds (case_of setup) epoch.target owner unit (every_setup_runs setup) within
