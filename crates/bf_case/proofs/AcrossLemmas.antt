@@ -22,7 +22,8 @@ use Rattle.bf_cells.specs.Grid.{Grid, cell_at}
 use Rattle.bf_cells.specs.Octant.{mean_at}
 use Rattle.bf_cells.specs.Shell.{face_cell}
 use Rattle.bf_cells.specs.Levels.{face_mean}
-use Rattle.bf_case.specs.Beside.{IsAtEdge, LiesAcross, face_corner, value_beside, first_low, second_low, unit_across}
+use Rattle.bf_id.specs.Neighbours.{IsAtEdge, unit_across}
+use Rattle.bf_case.specs.Beside.{LiesAcross, face_corner, value_beside, first_low, second_low}
 use Rattle.bf_case.specs.Map.{Leaf, IsMap, HasCells, ids_of}
 use Rattle.bf_case.specs.Sample.{scale_of, sample}
 use Rattle.bf_case.specs.Stencil.{cells_x, cells_y, cells_z}

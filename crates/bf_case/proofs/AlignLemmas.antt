@@ -8,7 +8,8 @@ use Rattle.bf_face.specs.declared.face.Face.TheVariants.{XLow, XHigh, YLow, YHig
 use Rattle.bf_id.specs.Shape.{root_cube}
 use Rattle.bf_id.specs.Cube.{Cube, Spans, Holds, halved, narrowed}
 use Rattle.bf_id.specs.Id.{BlockId, level_of, box_of}
-use Rattle.bf_case.specs.Beside.{first_low, second_low, unit_across}
+use Rattle.bf_id.specs.Neighbours.{unit_across}
+use Rattle.bf_case.specs.Beside.{first_low, second_low}
 
 -- a number is a multiple of another
 abbrev pub IsMultiple : ℕ → ℕ → Type 0

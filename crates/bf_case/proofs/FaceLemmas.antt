@@ -20,7 +20,8 @@ use Rattle.bf_id.proofs.Cubes.{Meet-from_face, opposite_face, short_x, short_y, 
 use Rattle.bf_cells.specs.Grid.{Grid}
 use Rattle.bf_cells.specs.Levels.{face_mean}
 use Rattle.bf_cells.specs.Shell.{face_cell}
-use Rattle.bf_case.specs.Beside.{first_low, second_low, unit_across, value_beside, IsAtEdge, LiesAcross}
+use Rattle.bf_id.specs.Neighbours.{IsAtEdge, unit_across}
+use Rattle.bf_case.specs.Beside.{first_low, second_low, value_beside, LiesAcross}
 use Rattle.bf_case.specs.Map.{Leaf, HasCells, IsMap, ids_of}
 use Rattle.bf_case.specs.Sample.{scale_of}
 use Rattle.bf_case.proofs.AcrossLemmas.{EndsIn, across_in_domain, across_leaves, box_narrow, coarser_beside, finer_beside, finer_everywhere, half_within, leaf_edge, levels_near, same_beside, scale_doubles}

@@ -81,7 +81,7 @@ sample_in shape side level leaves leaf q c some is has edge coarse at =
     ∙ value_in shape side leaf q c at
 
 -- the mean of eight numbers depends on them alone
-mean_same : (a b c d e f g h a' b' c' d' e' f' g' h' : ℕ) → a ≡ a' → b ≡ b' → c ≡ c' → d ≡ d' → e ≡ e' → f ≡ f' → g ≡ g' → h ≡ h'
+pub mean_same : (a b c d e f g h a' b' c' d' e' f' g' h' : ℕ) → a ≡ a' → b ≡ b' → c ≡ c' → d ≡ d' → e ≡ e' → f ≡ f' → g ≡ g' → h ≡ h'
     → (a + b + c + d + e + f + g + h) / 8 ≡ (a' + b' + c' + d' + e' + f' + g' + h') / 8
 mean_same a b c d e f g h a' b' c' d' e' f' g' h' p q r s t u v w = cc
 

@@ -3,6 +3,7 @@ use Rattle.std.proofs.Common.{◌≡◌, ℕ, ◌+◌, ◌<◌, ◌≤◌, List,
 use Rattle.std.specs.Prelude.{AllPairs}
 use Rattle.std.proofs.lemmas.Bool.{both_ways, cases_Bool, cases_lt, cases_order, cond-true, cond-false, cond_both, eqb-true, eq-eqb, ne_eqb}
 use Rattle.std.proofs.lemmas.List.Elements.{All-head, All-contains, Contains-get_or}
+use Rattle.bf_id.proofs.Rising.{AllPairs-nil}
 use Rattle.bf_id.specs.declared.shape.Shape.{Shape}
 use Rattle.bf_id.specs.Cube.{Cube, Voxel, Holds, Within}
 use Rattle.bf_id.specs.Meeting.{Meet}
@@ -19,7 +20,7 @@ use Rattle.bf_case.specs.Balanced.{AreBalancedLeaves}
 use Rattle.bf_case.specs.Regrid.{heirs_by}
 use Rattle.bf_case.proofs.OctetLemmas.{parent_of-child, octant_of-child, level-parent}
 use Rattle.bf_case.proofs.OrderLemmas.{Precedes, before_cases, before_from_precedes, child_precedes, precedes_child, precedes_parent, parent_precedes, LiesLater, children_part}
-use Rattle.bf_case.proofs.ListLemmas.{AllBefore, AllPairs-none, AllPairs-one, AllPairs-from_fn, AllPairs-flat_map}
+use Rattle.bf_case.proofs.ListLemmas.{AllBefore, AllPairs-one, AllPairs-from_fn, AllPairs-flat_map}
 use Rattle.bf_case.proofs.SampleLemmas.{not_before_itself}
 
 -- the leaves that stand where the old ones stood
@@ -330,7 +331,7 @@ heirs_by_rise : (t : Target) (i : BlockId) → AllPairs IsBefore (heirs_by t i)
 heirs_by_rise Keep i = AllPairs-one IsBefore i
 heirs_by_rise Refine i = children_rise i
 heirs_by_rise Merge i =
-    cond_both (octant_of i == 0) (parent_of i ∷ []) [] (AllPairs IsBefore) (λ _. AllPairs-one IsBefore (parent_of i)) (λ _. AllPairs-none IsBefore)
+    cond_both (octant_of i == 0) (parent_of i ∷ []) [] (AllPairs IsBefore) (λ _. AllPairs-one IsBefore (parent_of i)) (λ _. AllPairs-nil IsBefore)
 
 -- a new leaf precedes what the old leaf preceded, or that is a later leaf of the same octet, so that nothing comes of it
 heir_precedes : (shape : Shape) (levels : ℕ) (ids : List BlockId) (target : BlockId → Target) (i j a : BlockId) → IsRegridded shape levels ids target

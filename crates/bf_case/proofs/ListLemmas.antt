@@ -8,6 +8,7 @@ use Rattle.std.proofs.lemmas.Bool.{cases_Bool, cond-true, cond-false, both_ways}
 use Rattle.std.proofs.lemmas.List.{length-map, get_or-map}
 use Rattle.std.proofs.lemmas.List.Elements.{All-nil, All-append, All-head, All-tail, Contains-get_or}
 use Rattle.std.proofs.lemmas.List.Kept.{AllPairs-cons}
+use Rattle.bf_id.proofs.Rising.{AllPairs-nil}
 use Rattle.bf_id.proofs.Tilings.{Contains-head, Contains-tail, Contains-cons_cases, Contains-none, Contains-flat_map_cases}
 
 pub Contains-map : {X Y : Type 0} (f : X → Y) (xs : List X) (x : X) → Contains xs x → Contains (map f xs) (f x)
@@ -50,14 +51,6 @@ option_map_or-find P f test (x ∷ xs) d each last =
     by (inl passed) later = rw passed (All-head (λ x. P (f x)) x xs each)
     by (inr failed) later = rw failed later
 
--- a map that changes no element
-pub map_same : {X : Type 0} (f : X → X) (xs : List X) → All (λ x. f x ≡ x) xs → map f xs ≡ xs
-map_same f [] each = refl
-map_same f (x ∷ xs) each =
-    let first : f x ≡ x = All-head (λ x. f x ≡ x) x xs each in
-    let rest : map f xs ≡ xs = map_same f xs (All-tail (λ x. f x ≡ x) x xs each) in
-    λ k. first k ∷ rest k
-
 -- a flat map that gives each element back
 pub flat_map_same : {X : Type 0} (f : X → List X) (xs : List X) → All (λ x. f x ≡ x ∷ []) xs → flat_map f xs ≡ xs
 flat_map_same f [] each = refl
@@ -81,11 +74,8 @@ AllPairs-from_fn R f n each k l d less h =
 
 -- ---- each element and each later one
 
-pub AllPairs-none : {X : Type 0} (R : X → X → Type 0) → AllPairs R []
-AllPairs-none R = λ k l d less below. absurd (omega arith)
-
 pub AllPairs-one : {X : Type 0} (R : X → X → Type 0) (x : X) → AllPairs R (x ∷ [])
-AllPairs-one R x = AllPairs-cons R x [] (All-nil (R x)) (AllPairs-none R)
+AllPairs-one R x = AllPairs-cons R x [] (All-nil (R x)) (AllPairs-nil R)
 
 -- each element of the first list with each of the second
 abbrev pub AllBefore : {X : Type 0} → (X → X → Type 0) → List X → List X → Type 0
@@ -102,7 +92,7 @@ AllPairs-append R (x ∷ xs) ys first second between =
 -- joined lists, each of which is in order, and which are in order with each other
 pub AllPairs-flat_map : {X Y : Type 0} (R : Y → Y → Type 0) (f : X → List Y) (xs : List X) → ((x : X) → AllPairs R (f x))
     → AllPairs (λ x y. AllBefore R (f x) (f y)) xs → AllPairs R (flat_map f xs)
-AllPairs-flat_map R f [] each pairs = AllPairs-none R
+AllPairs-flat_map R f [] each pairs = AllPairs-nil R
 AllPairs-flat_map {X} R f (x ∷ xs) each pairs =
     AllPairs-append R (f x) (flat_map f xs) (each x) (AllPairs-flat_map R f xs each (λ k l d less below. pairs (suc k) (suc l) d (omega arith) (omega arith)))
     (λ a b has has'. let from = Contains-flat_map_cases f xs b has' in later a b from.0 from.1 has from.2)

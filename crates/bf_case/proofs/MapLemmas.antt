@@ -10,11 +10,12 @@ use Rattle.std.proofs.Math.Nat.{mul-le-mul}
 use Rattle.std.proofs.lemmas.Bool.{cond-false, cond_both, le-ltb, and_left, and_right}
 use Rattle.std.proofs.lemmas.Simd.{map-map}
 use Rattle.std.proofs.lemmas.List.Elements.{All-nil, All-head, All-tail, All-map, All-weaker, Contains-get_or}
+use Rattle.std.proofs.lemmas.List.Folds.{map_fixed}
 use Rattle.bf_id.specs.declared.shape.Shape.{Shape}
 use Rattle.bf_id.specs.Cube.{Voxel}
 use Rattle.bf_id.specs.Axis.{is_first, is_last, back, on}
 use Rattle.bf_id.specs.Shape.{IsShape, root_count}
-use Rattle.bf_id.specs.Id.{BlockId, IsId, InShape, level_of, root_id, touches, parent_of}
+use Rattle.bf_id.specs.Id.{BlockId, IsId, InShape, level_of, root_id, touches, parent_of, root_ids}
 use Rattle.bf_id.specs.Tiling.{Tiles}
 use Rattle.bf_id.specs.Walk.{IsBefore}
 use Rattle.bf_id.proofs.Tilings.{roots_Tiles}
@@ -32,9 +33,9 @@ use Rattle.bf_case.specs.Refinement.{is_among, refined_within, refined_ids}
 use Rattle.bf_case.specs.Merging.{merges}
 use Rattle.bf_case.specs.Regrid.{heirs_by, heirs_of, regridded_ids, sampled_leaf, regrid}
 use Rattle.bf_case.specs.declared.target.Target.TheVariants.{Keep, Refine, Merge}
-use Rattle.bf_case.specs.Model.{root_ids, has_cell, filled_value, first_cell, filled_root, initial, regrids, regridded, model, NeverRefines}
+use Rattle.bf_case.specs.Model.{has_cell, filled_value, first_cell, filled_root, initial, regrids, regridded, model, NeverRefines}
 use Rattle.bf_case.proofs.TestLemmas.{filter_none}
-use Rattle.bf_case.proofs.ListLemmas.{map_same, flat_map_same, All-from_fn, AllPairs-from_fn}
+use Rattle.bf_case.proofs.ListLemmas.{flat_map_same, All-from_fn, AllPairs-from_fn}
 use Rattle.bf_case.proofs.SampleLemmas.{own_sample, sample_small}
 
 -- a map with other cells in the same leaves
@@ -160,7 +161,7 @@ unfolding regrid
 regrid_same c leaves flat is roots =
     ap (map (sampled_leaf c.roots c.side leaves)) (regridded_ids_same c leaves flat roots)
     ∙ map-map (sampled_leaf c.roots c.side leaves) (λ (leaf : Leaf). leaf.0) leaves
-    ∙ map_same (λ (leaf : Leaf). sampled_leaf c.roots c.side leaves leaf.0) leaves
+    ∙ map_fixed (λ (leaf : Leaf). sampled_leaf c.roots c.side leaves leaf.0) leaves
     (λ k d h. sampled_leaf_same c.roots c.side leaves (get_or leaves k d) is (Contains-get_or leaves k d h) (is.cells k d h))
 
 -- ---- the beginning

@@ -5,6 +5,7 @@ use Rattle.std.specs.Option.{option_map_or}
 use Rattle.std.proofs.lemmas.Bool.{and_parts, cond_both, ltb-true, false≢true}
 use Rattle.std.proofs.lemmas.Simd.{map-map}
 use Rattle.std.proofs.lemmas.List.Elements.{All-map}
+use Rattle.std.proofs.lemmas.List.Folds.{map_fixed}
 use Rattle.bf_id.specs.Shape.{root_count}
 use Rattle.bf_id.specs.Id.{BlockId, level_of, root_id}
 use Rattle.bf_id.specs.Tiling.{IsBalanced}
@@ -19,7 +20,7 @@ use Rattle.bf_case.specs.Stencil.{stencil}
 use Rattle.bf_case.specs.Wishes.{wishes_of}
 use Rattle.bf_case.specs.Regrid.{regridded_ids, sampled_leaf, regrid}
 use Rattle.bf_case.specs.Model.{initial, regrids, regridded, model, model_at}
-use Rattle.bf_case.proofs.ListLemmas.{map_same, All-from_fn}
+use Rattle.bf_case.proofs.ListLemmas.{All-from_fn}
 use Rattle.bf_case.proofs.SampleLemmas.{sample_small}
 use Rattle.bf_case.proofs.MapLemmas.{ids_of-stencil, IsMap-stencil, ids_of-initial, IsMap-initial, HasCells-table}
 use Rattle.bf_case.proofs.ChoiceLemmas.{regridded_are_balanced}
@@ -70,7 +71,7 @@ pub ids_of-regrid : (c : Case) (leaves : List Leaf) → ids_of (regrid c leaves)
 unfolding regrid
 ids_of-regrid c leaves =
     let ids = regridded_ids c.roots (ids_of leaves) (wishes_of c leaves) in
-    map-map (λ (leaf : Leaf). leaf.0) (sampled_leaf c.roots c.side leaves) ids ∙ map_same (λ (i : BlockId). i) ids (λ k d below. refl)
+    map-map (λ (leaf : Leaf). leaf.0) (sampled_leaf c.roots c.side leaves) ids ∙ map_fixed (λ (i : BlockId). i) ids (λ k d below. refl)
 
 cells-regrid : (c : Case) (leaves : List Leaf) → IsSized c → All (HasCells c.side) leaves → All (HasCells c.side) (regrid c leaves)
 unfolding regrid

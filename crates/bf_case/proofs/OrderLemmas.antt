@@ -9,7 +9,7 @@ use Rattle.std.proofs.lemmas.Bool.{cases_order}
 use Rattle.bf_id.specs.Id.{BlockId, child_of, Begins}
 use Rattle.bf_id.specs.Walk.{IsBefore}
 use Rattle.bf_id.proofs.Boxes.{Continues}
-use Rattle.bf_id.proofs.Rising.{id_cmp_total}
+use Rattle.bf_id.proofs.Rising.{id_cmp_total, later_Less}
 use Rattle.bf_case.proofs.SampleLemmas.{not_before_itself}
 
 -- what stands before an id that stands before a third stands before the third
@@ -31,12 +31,6 @@ then_Less x y rest e = by (cases_order x y)
     by (inl same) = inr (same, decided Equal (nat_cmp_is x y Equal same))
     by (inr (inl below)) = inl below
     by (inr (inr above)) = let wrong : Greater ≡ Less = decided Greater (nat_cmp_is x y Greater above) in absurd cc
-
--- behind the same front, the lesser number decides
-less_behind : (front : List ℕ) (x y : ℕ) (ds es : List ℕ) → x < y → slice_cmp nat_cmp (front ++ x ∷ ds) (front ++ y ∷ es) ≡ Less
-less_behind [] x y ds es below = ap (λ o. ordering_then o (slice_cmp nat_cmp ds es)) (sym (nat_cmp_is x y Less below))
-less_behind (z ∷ front) x y ds es below =
-    ap (λ o. ordering_then o (slice_cmp nat_cmp (front ++ x ∷ ds) (front ++ y ∷ es))) (sym (nat_cmp_is z z Equal refl)) ∙ less_behind front x y ds es below
 
 -- a list between a front with a number behind it and the same front with the next number goes on where the first ends
 between : (front ds : List ℕ) (x : ℕ) → slice_cmp nat_cmp (front ++ x ∷ []) ds ≡ Less → slice_cmp nat_cmp ds (front ++ (x + 1) ∷ []) ≡ Less
@@ -86,7 +80,7 @@ pub sibling_before : (p : BlockId) (octant : ℕ) → IsBefore (child_of p octan
 sibling_before p octant =
     let same : Equal ≡ nat_cmp p.root p.root = nat_cmp_is p.root p.root Equal refl in
     ap (λ o. ordering_then o (slice_cmp nat_cmp (p.digits ++ octant ∷ []) (p.digits ++ (octant + 1) ∷ []))) (sym same)
-    ∙ less_behind p.digits octant (octant + 1) [] [] (omega arith)
+    ∙ later_Less p.digits octant (octant + 1) [] [] (omega arith)
 
 -- ---- where ids part
 
@@ -122,7 +116,7 @@ before_from_precedes i j (inl below) =
     ap (λ o. ordering_then o (slice_cmp nat_cmp i.digits j.digits)) (sym (nat_cmp_is i.root j.root Less below))
 before_from_precedes i j (inr (same, part)) =
     let digits : slice_cmp nat_cmp i.digits j.digits ≡ Less =
-    rw (part.first, part.second) (less_behind part.front part.low part.high part.low_rest part.high_rest part.less) in
+    rw (part.first, part.second) (later_Less part.front part.low part.high part.low_rest part.high_rest part.less) in
     ap (λ o. ordering_then o (slice_cmp nat_cmp i.digits j.digits)) (sym (nat_cmp_is i.root j.root Equal same)) ∙ digits
 
 -- a list that stands before another begins it, or they part

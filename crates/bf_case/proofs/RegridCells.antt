@@ -6,6 +6,7 @@ use Rattle.std.proofs.Math.Nat.{div-div-eq-div-mul, mul-div_cancel, div-add-mod}
 use Rattle.std.proofs.lemmas.Nat.{shl-shr, div_below, mod_below}
 use Rattle.std.proofs.lemmas.Bool.{cond-true, cond-false, le-leb, lt-leb}
 use Rattle.std.proofs.lemmas.List.Elements.{All-contains}
+use Rattle.bf_case.proofs.FinestLemmas.{mean_same}
 use Rattle.bf_id.specs.declared.shape.Shape.{Shape}
 use Rattle.bf_id.specs.Cube.{Cube, Voxel}
 use Rattle.bf_id.specs.Id.{BlockId, level_of, child_of, box_of}
@@ -174,10 +175,6 @@ value_beyond shape side leaf x y z a b c x' y' z' hx hy hz =
     ∙ ap (λ n. cell_at leaf.1 x' n ((p.z - corner.z) / scale_of level)) ey
     ∙ ap (λ n. cell_at leaf.1 x' y' n) ez
 
-same_eighth : (a b c d e f g h a' b' c' d' e' f' g' h' : ℕ) → a ≡ a' → b ≡ b' → c ≡ c' → d ≡ d' → e ≡ e' → f ≡ f' → g ≡ g' → h ≡ h'
-    → (a + b + c + d + e + f + g + h) / 8 ≡ (a' + b' + c' + d' + e' + f' + g' + h') / 8
-same_eighth a b c d e f g h a' b' c' d' e' f' g' h' ea eb ec ed ee ef eg eh = cc
-
 same_voxel : (p q : Voxel) → p.x ≡ q.x → p.y ≡ q.y → p.z ≡ q.z → p ≡ q
 same_voxel p q ex ey ez = λ k. record { x = ex k; y = ey k; z = ez k }
 
@@ -192,7 +189,7 @@ own_mean shape side leaf x y z =
     let at : (a b c x' y' z' : ℕ) → 2 * x * scale + a ≡ x' * scale → 2 * y * scale + b ≡ y' * scale → 2 * z * scale + c ≡ z' * scale
     → value_at shape side leaf (moved p a b c) ≡ cell_at leaf.1 x' y' z' = value_beyond shape side leaf (2 * x) (2 * y) (2 * z) in
     let here : p ≡ moved p 0 0 0 = same_voxel p (moved p 0 0 0) (omega arith) (omega arith) (omega arith) in
-    same_eighth _ _ _ _ _ _ _ _ _ _ _ _ _ _ _ _
+    mean_same _ _ _ _ _ _ _ _ _ _ _ _ _ _ _ _
     (ap (value_at shape side leaf) here ∙ at 0 0 0 _ _ _ (stay x) (stay y) (stay z)) (at scale 0 0 _ _ _ (next x) (stay y) (stay z))
     (at 0 scale 0 _ _ _ (stay x) (next y) (stay z)) (at scale scale 0 _ _ _ (next x) (next y) (stay z))
     (at 0 0 scale _ _ _ (stay x) (stay y) (next z)) (at scale 0 scale _ _ _ (next x) (stay y) (next z))

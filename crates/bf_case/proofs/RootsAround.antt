@@ -17,7 +17,8 @@ use Rattle.bf_cells.specs.Grid.{Grid}
 use Rattle.bf_cells.specs.Shell.{Walls, wall_of, wall_place, with_wall, face_values}
 use Rattle.bf_cells.proofs.WallLemmas.{get_or-face_values, same_walls, wall_of-with_wall_other, wall_of-with_wall_same}
 use Rattle.bf_case.specs.Map.{Leaf, IsMap, HasCells}
-use Rattle.bf_case.specs.Beside.{IsAtEdge, HoldSamples, unit_across, value_beside}
+use Rattle.bf_id.specs.Neighbours.{IsAtEdge, unit_across}
+use Rattle.bf_case.specs.Beside.{HoldSamples, value_beside}
 use Rattle.bf_case.specs.Around.{across, root_at, roots_x, roots_y, roots_z, x_of, y_of, z_of, AreRootIds, grid_at, nothing, wall_from, walls_around}
 use Rattle.bf_case.proofs.RootSteps.{roots_are}
 use Rattle.bf_case.proofs.AcrossLemmas.{edge_beside, same_beside}

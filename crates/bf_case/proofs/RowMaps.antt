@@ -5,13 +5,13 @@ use Rattle.std.specs.List.{range_with_len}
 use Rattle.std.proofs.lemmas.Bool.{eqb-true}
 use Rattle.std.proofs.Math.ListN.{length-set}
 use Rattle.std.proofs.lemmas.List.Elements.{All-nil, All-cons, All-map, All-append, All-set}
-use Rattle.bf_id.specs.Id.{BlockId, level_of, root_id, child_of, children_of, id_eq}
+use Rattle.bf_id.specs.Id.{BlockId, level_of, root_id, child_of, children_of, id_eq, root_ids}
 use Rattle.bf_id.proofs.Boxes.{id_eq_is_equal}
 use Rattle.bf_cells.specs.Grid.{filled_with}
 use Rattle.bf_case.specs.Case.{IsValid, IsFill, IsDeath}
 use Rattle.bf_case.specs.Balanced.{AreBalancedLeaves}
 use Rattle.bf_case.specs.Map.{Leaf, ids_of, HasCells, IsBalancedMap}
-use Rattle.bf_case.specs.Model.{initial, root_ids}
+use Rattle.bf_case.specs.Model.{initial}
 use Rattle.bf_case.specs.Wishes.{Wishes}
 use Rattle.bf_case.specs.Refinement.{refined_within}
 use Rattle.bf_case.specs.Merging.{merges_within}

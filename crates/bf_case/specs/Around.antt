@@ -6,11 +6,10 @@ use Rattle.bf_face.specs.declared.face.Face.{Face}
 use Rattle.bf_id.specs.Axis.{Axis, before, after}
 use Rattle.bf_face.specs.declared.face.Face.TheVariants.{XLow, XHigh, YLow, YHigh, ZLow, ZHigh}
 use Rattle.bf_face.specs.Face.{opposite_of}
-use Rattle.bf_id.specs.Id.{root_id}
+use Rattle.bf_id.specs.Id.{root_id, root_ids}
 use Rattle.bf_cells.specs.Grid.{Grid}
 use Rattle.bf_cells.specs.Shell.{Walls, face_values}
 use Rattle.bf_case.specs.Map.{Leaf, ids_of}
-use Rattle.bf_case.specs.Model.{root_ids}
 
 -- the three axes, in roots
 abbrev pub roots_x : Shape → Axis

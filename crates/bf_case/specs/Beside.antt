@@ -4,9 +4,9 @@ use Rattle.bf_id.specs.declared.shape.Shape.{Shape}
 use Rattle.bf_face.specs.declared.face.Face.{Face}
 use Rattle.bf_face.specs.declared.face.Face.TheVariants.{XLow, XHigh, YLow, YHigh, ZLow, ZHigh}
 use Rattle.bf_id.specs.Cube.{Cube, Voxel, Holds}
-use Rattle.bf_id.specs.Axis.{is_first, is_last, back, on, IsFirst, IsLast}
-use Rattle.bf_id.specs.Shape.{axis_x, axis_y, axis_z}
+use Rattle.bf_id.specs.Axis.{is_first, is_last, back, on}
 use Rattle.bf_id.specs.Id.{BlockId, level_of, box_of}
+use Rattle.bf_id.specs.Neighbours.{unit_across, IsAtEdge}
 use Rattle.bf_cells.specs.Grid.{Grid}
 use Rattle.bf_cells.specs.Shell.{Walls, wall_at, face_cell}
 use Rattle.bf_case.specs.Map.{Leaf, IsMap}
@@ -48,15 +48,6 @@ HoldsBeside shape leaves i g walls face =
 abbrev pub HoldSamples : Shape → List Leaf → BlockId → Grid → Walls → Type 0
 HoldSamples shape leaves i g walls = (face : Face) → HoldsBeside shape leaves i g walls face
 
--- the face lies at the domain's edge
-abbrev pub IsAtEdge : Shape → Cube → Face → Type 0
-IsAtEdge shape box XLow = IsFirst (axis_x shape) box.x
-IsAtEdge shape box XHigh = IsLast (axis_x shape) (box.x + box.edge)
-IsAtEdge shape box YLow = IsFirst (axis_y shape) box.y
-IsAtEdge shape box YHigh = IsLast (axis_y shape) (box.y + box.edge)
-IsAtEdge shape box ZLow = IsFirst (axis_z shape) box.z
-IsAtEdge shape box ZHigh = IsLast (axis_z shape) (box.z + box.edge)
-
 -- where a box begins along the first and the second of a face's two axes, in the order x, y, z
 abbrev pub first_low : Face → Cube → ℕ
 first_low XLow box = box.y
@@ -73,15 +64,6 @@ second_low YLow box = box.z
 second_low YHigh box = box.z
 second_low ZLow box = box.y
 second_low ZHigh box = box.y
-
--- the unit just across a face, so many units on from where the face begins along its two axes
-abbrev pub unit_across : Shape → Cube → Face → ℕ → ℕ → Voxel
-unit_across shape box XLow a b = record { x = back (axis_x shape) 1 box.x; y = box.y + a; z = box.z + b }
-unit_across shape box XHigh a b = record { x = on (axis_x shape) box.edge box.x; y = box.y + a; z = box.z + b }
-unit_across shape box YLow a b = record { x = box.x + a; y = back (axis_y shape) 1 box.y; z = box.z + b }
-unit_across shape box YHigh a b = record { x = box.x + a; y = on (axis_y shape) box.edge box.y; z = box.z + b }
-unit_across shape box ZLow a b = record { x = box.x + a; y = box.y + b; z = back (axis_z shape) 1 box.z }
-unit_across shape box ZHigh a b = record { x = box.x + a; y = box.y + b; z = on (axis_z shape) box.edge box.z }
 
 -- two leaves of a map, of which the other has the unit just across a face of the first, so many units on along the face's two axes
 pub record LiesAcross (shape : Shape) (side : ℕ) (leaves : List Leaf) (own : Leaf) (face : Face) (a b : ℕ) (other : Leaf) : Type 0 where

@@ -13,5 +13,5 @@ pub mod MapText
 pub mod Filling
 pub mod Around
 pub mod Beside
-pub mod Rows
 pub mod Halves
+pub mod Rows

@@ -4,7 +4,7 @@ use Rattle.std.specs.List.{range_with_len}
 use Rattle.bf_id.specs.declared.shape.Shape.{Shape}
 use Rattle.bf_id.specs.Cube.{Voxel}
 use Rattle.bf_id.specs.Shape.{root_count}
-use Rattle.bf_id.specs.Id.{BlockId, root_id}
+use Rattle.bf_id.specs.Id.{root_id}
 use Rattle.bf_cells.specs.Grid.{table}
 use Rattle.bf_case.specs.declared.case.Case.{Case}
 use Rattle.bf_case.specs.declared.case.Fill.{Fill}
@@ -12,10 +12,6 @@ use Rattle.bf_case.specs.Map.{Leaf}
 use Rattle.bf_case.specs.Sample.{moved}
 use Rattle.bf_case.specs.Stencil.{stencil}
 use Rattle.bf_case.specs.Regrid.{regrid}
-
--- the ids of the roots, in their order
-abbrev pub root_ids : Shape → List BlockId
-root_ids shape = map root_id (range_with_len 0 (root_count shape))
 
 -- whether a number lies between two, both included
 abbrev pub is_between : ℕ → ℕ → ℕ → Bool

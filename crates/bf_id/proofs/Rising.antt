@@ -12,7 +12,7 @@ use Rattle.std.proofs.lemmas.List.{append-nil, append_assoc}
 use Rattle.std.proofs.lemmas.List.Elements.{All-append, All-cons, Contains-append_left, Contains-append_right}
 use Rattle.std.proofs.lemmas.List.Kept.{AllPairs-cons}
 use Rattle.std.proofs.lemmas.Map.Lookups.{exact_bytes}
-use Rattle.bf_id.proofs.Boxes.{same_id}
+use Rattle.bf_id.proofs.Boxes.{same_id, level-child, All-end}
 use Rattle.bf_id.specs.Id.{BlockId, id_cmp, child_of, children_of, level_of, Begins}
 use Rattle.bf_id.specs.Walk.{walk, IsBefore}
 
@@ -33,7 +33,7 @@ prefix_Less [] x xs = refl
 prefix_Less (y ∷ front) x xs = rw (same_Equal y) (prefix_Less front x xs)
 
 -- behind the same front, the lesser number decides
-later_Less : (front : List ℕ) (x y : ℕ) (xs ys : List ℕ) → x < y → slice_cmp nat_cmp (front ++ x ∷ xs) (front ++ y ∷ ys) ≡ Less
+pub later_Less : (front : List ℕ) (x y : ℕ) (xs ys : List ℕ) → x < y → slice_cmp nat_cmp (front ++ x ∷ xs) (front ++ y ∷ ys) ≡ Less
 later_Less [] x y xs ys below = rw (sym (nat_cmp_is x y Less below)) refl
 later_Less (z ∷ front) x y xs ys below = rw (same_Equal z) (later_Less front x y xs ys below)
 
@@ -54,7 +54,7 @@ before_later i j k octant first later =
 All-nil : {X : Type 0} (P : X → Type 0) → All P []
 All-nil P = λ k d h. absurd (omega arith)
 
-AllPairs-nil : {X : Type 0} (R : X → X → Type 0) → AllPairs R []
+pub AllPairs-nil : {X : Type 0} (R : X → X → Type 0) → AllPairs R []
 AllPairs-nil R = λ i j d below h. absurd (omega arith)
 
 AllPairs-append : {X : Type 0} (R : X → X → Type 0) (xs ys : List X) → AllPairs R xs → AllPairs R ys → All (λ x. All (R x) ys) xs → AllPairs R (xs ++ ys)
@@ -113,13 +113,10 @@ good_walk (suc levels) i =
 pub walk_rises : (levels : ℕ) (i : BlockId) → AllPairs IsBefore (walk levels i)
 walk_rises levels i = (good_walk levels i).rising
 
-level_of_child : (i : BlockId) (octant : ℕ) → level_of (child_of i octant) ≡ level_of i + 1
-level_of_child i octant = length-append i.digits (octant ∷ [])
-
 walks_shallow : (levels : ℕ) (i : BlockId) (low count : ℕ) → ((octant : ℕ) → All (λ j. level_of j ≤ level_of (child_of i octant) + levels) (walk levels (child_of i octant))) → All (λ j. level_of j ≤ level_of i + suc levels) (walks_from levels i low count)
 walks_shallow levels i low zero shallow = All-nil (λ (j : BlockId). level_of j ≤ level_of i + suc levels)
 walks_shallow levels i low (suc count) shallow =
-    All-append (λ (j : BlockId). level_of j ≤ level_of i + suc levels) (walk levels (child_of i low)) (walks_from levels i (low + 1) count) (λ k d h. let here = shallow low k d h in omega (arith, level_of_child i low)) (walks_shallow levels i (low + 1) count shallow)
+    All-append (λ (j : BlockId). level_of j ≤ level_of i + suc levels) (walk levels (child_of i low)) (walks_from levels i (low + 1) count) (λ k d h. let here = shallow low k d h in omega (arith, level-child i low)) (walks_shallow levels i (low + 1) count shallow)
 
 walk_shallow : (levels : ℕ) (i : BlockId) → All (λ j. level_of j ≤ level_of i + levels) (walk levels i)
 unfolding walk
@@ -168,10 +165,6 @@ walks_meet levels i j low (suc count) zero octant at within met =
 walks_meet levels i j low (suc count) (suc k) octant at within met =
     Contains-append_right (walk levels (child_of i low)) (walks_from levels i (low + 1) count) j (walks_meet levels i j (low + 1) count k octant (omega arith) (omega arith) met)
 
-All-behind : (P : ℕ → Type 0) (xs ys : List ℕ) → All P (xs ++ ys) → All P ys
-All-behind P [] ys h = h
-All-behind P (x ∷ xs) ys h = All-behind P xs ys (λ k d b. h (suc k) d (omega arith))
-
 meets_rest : (levels : ℕ) (i j : BlockId) (rest : List ℕ) → All (λ octant. octant < 8) rest → length rest ≤ levels → i.root ≡ j.root → j.digits ≡ i.digits ++ rest → Contains (walk levels i) j
 unfolding walk
 meets_rest zero i j [] octal fits root digits = (0, omega arith, same_id i j root (sym (append-nil i.digits) ∙ sym digits))
@@ -188,7 +181,7 @@ walk_meets levels i j h octal near =
     let P : List ℕ → Type 0 = All (λ octant. octant < 8) in
     let long = length-append i.digits rest in
     let same = ap (λ (ds : List ℕ). length ds) h.1.1 in
-    meets_rest levels i j rest (All-behind (λ octant. octant < 8) i.digits rest (subst P h.1.1 octal)) (omega arith) h.0 h.1.1
+    meets_rest levels i j rest (All-end (λ octant. octant < 8) i.digits rest (subst P h.1.1 octal)) (omega arith) h.0 h.1.1
 
 -- the order of ids is total, and tells no two apart that are the same
 pub id_cmp_total : IsTotalOrder id_cmp

@@ -7,7 +7,7 @@ use Rattle.std.proofs.lemmas.List.FromFn.{length-map-range_with_len, get_or-map-
 use Rattle.std.proofs.lemmas.Map.Views.{Contains-from_any}
 use Rattle.bf_id.specs.Cube.{Voxel, Holds}
 use Rattle.bf_id.specs.Shape.{IsShape, root_count, InDomain}
-use Rattle.bf_id.specs.Id.{BlockId, level_of, root_id, child_of, children_of, box_of, id_eq, IsId, Begins}
+use Rattle.bf_id.specs.Id.{BlockId, level_of, root_id, child_of, children_of, box_of, id_eq, IsId, Begins, root_ids}
 use Rattle.bf_id.specs.Tiling.{Tiles, IsBalanced, split_at, merged_at}
 use Rattle.bf_id.specs.declared.shape.Shape.{Shape}
 use Rattle.bf_id.proofs.Boxes.{id_eq_is_equal, parent_holds, child_holding, child_is_one, root_holding, root_is_one, begins_within, corner_of, holds_corner}
@@ -187,20 +187,16 @@ merged_cases p ids j has = of (Contains-flat_map_cases (merged_one p) ids j has)
 
 -- ---- tilings
 
--- the ids of the roots
-abbrev pub roots_of : Shape → List BlockId
-roots_of shape = map root_id (range_with_len 0 (root_count shape))
-
 -- the roots tile the domain
-pub roots_Tiles : (shape : Shape) → IsShape shape → Tiles shape (roots_of shape)
+pub roots_Tiles : (shape : Shape) → IsShape shape → Tiles shape (root_ids shape)
 roots_Tiles shape is = record { covered = covered; apart = apart }
   where
-    covered : (v : Voxel) → InDomain shape v → (i : BlockId) × Contains (roots_of shape) i × Holds (box_of shape i) v
+    covered : (v : Voxel) → InDomain shape v → (i : BlockId) × Contains (root_ids shape) i × Holds (box_of shape i) v
     covered v in' =
         let root = root_holding shape v in' in
         (root_id root.0, Contains-from_fn root_id (root_count shape) root.0 root.2, root.3)
 
-    apart : (v : Voxel) (i j : BlockId) → Contains (roots_of shape) i → Contains (roots_of shape) j → Holds (box_of shape i) v → Holds (box_of shape j) v → i ≡ j
+    apart : (v : Voxel) (i j : BlockId) → Contains (root_ids shape) i → Contains (root_ids shape) j → Holds (box_of shape i) v → Holds (box_of shape j) v → i ≡ j
     apart v i j p q h k =
         let a = Contains-from_fn_cases root_id (root_count shape) i p in
         let b = Contains-from_fn_cases root_id (root_count shape) j q in
@@ -208,7 +204,7 @@ roots_Tiles shape is = record { covered = covered; apart = apart }
         a.2 ∙ ap root_id same ∙ sym b.2
 
 -- and are balanced
-pub roots_IsBalanced : (shape : Shape) → IsBalanced shape (roots_of shape)
+pub roots_IsBalanced : (shape : Shape) → IsBalanced shape (root_ids shape)
 roots_IsBalanced shape i j p q touch =
     let a = Contains-from_fn_cases root_id (root_count shape) i p in
     let level : level_of i ≡ 0 = ap level_of a.2 in

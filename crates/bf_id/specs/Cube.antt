@@ -8,6 +8,12 @@ pub record Cube : Type 0 where
   pub z : ℕ
   pub edge : ℕ
 
+-- the cube lies where the widest domain may be, so that its corners are small numbers
+pub record IsNear (c : Cube) : Type 0 where
+  pub near_x : c.x + c.edge ≤ 256
+  pub near_y : c.y + c.edge ≤ 256
+  pub near_z : c.z + c.edge ≤ 256
+
 -- a unit of space, by its low corner
 pub record Voxel : Type 0 where
   pub x : ℕ

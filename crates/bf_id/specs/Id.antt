@@ -34,6 +34,10 @@ child_of i octant = record { root = i.root; digits = i.digits ++ octant ∷ [] }
 abbrev pub children_of : BlockId → List BlockId
 children_of i = map (child_of i) (range_with_len 0 8)
 
+-- the roots of a domain, in their order
+abbrev pub root_ids : Shape → List BlockId
+root_ids shape = map root_id (range_with_len 0 (root_count shape))
+
 -- the box of a block
 abbrev pub box_of : Shape → BlockId → Cube
 box_of shape i = narrowed (root_cube shape i.root) i.digits

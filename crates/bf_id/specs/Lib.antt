@@ -4,8 +4,8 @@ pub mod Shape
 pub mod Meeting
 pub mod Id
 pub mod IdFields
-pub mod Region
 pub mod Face
+pub mod Neighbours
 pub mod Tiling
 pub mod Walk
 pub mod IdText

@@ -21,9 +21,9 @@ ghost use Rattle.std.specs.Cmp.{partial_order_from_own_ties};
 ghost use Rattle.std.specs.Ordering.{as_partial_cmp};
 ghost use Rattle.std.specs.Prelude.{ℕ, ◌<◌, ◌^◌, ◌/◌, ◌≡◌, ◌↔◌, ◌∷◌, [], IfSome, IsNone, IsTrue, MatchOption};
 
+use crate::cube::Cube;
 use crate::id_text::IdText;
 use crate::parse::{from_parts, root_in};
-use crate::region::Region;
 use crate::shape::Shape;
 use bf_face::Face;
 use itoa::Buffer;
@@ -171,6 +171,15 @@ impl Id {
         &self.digits[..self.level as usize]
     }
 
+    /// The block's box.
+    pub fn cube(self, shape: Shape) -> Cube
+        requires domain { IsShape shape }
+        requires inside { InShape shape self }
+        ensures { result ≡ box_of shape self }
+    {
+        Cube::of_root(shape, self.root).narrowed(self.octants())
+    }
+
     /// The low corner of the block's box, in units.
     pub fn corner(self, shape: Shape) -> [u32; 3]
         requires domain { IsShape shape }
@@ -178,7 +187,7 @@ impl Id {
         ensures { let low = box_of shape self in
             result ≡ low.x ∷ low.y ∷ low.z ∷ [] }
     {
-        self.region(shape).corner()
+        self.cube(shape).corner()
     }
 
     /// The edge of the block's box, in units.
@@ -196,7 +205,7 @@ impl Id {
         requires other_inside { InShape shape other }
         ensures { IsTrue result ↔ Touch shape self other }
     {
-        self != other && self.region(shape).meets(other.region(shape), shape)
+        self != other && self.cube(shape).meets(other.cube(shape), shape)
     }
 
     /// The face of this block of which a part that has area lies on the other block.
@@ -208,7 +217,7 @@ impl Id {
             ((face : Face) → ¬ SharesFace shape face (box_of shape self) (box_of shape other))
             (λ face. SharesFace shape face (box_of shape self) (box_of shape other)) }
     {
-        self.region(shape).face(other.region(shape), shape)
+        self.cube(shape).face(other.cube(shape), shape)
     }
 
     /// The root in decimal and, below a root, a full stop and the octants.
@@ -231,13 +240,5 @@ impl Id {
             None => root_in(text).map(Id::root_of),
             Some((root, octants)) => from_parts(root, octants),
         }
-    }
-
-    fn region(self, shape: Shape) -> Region
-        requires domain { IsShape shape }
-        requires inside { InShape shape self }
-        ensures { result ≡ box_of shape self }
-    {
-        Region::of_root(shape, self.root).narrowed(self.octants())
     }
 }

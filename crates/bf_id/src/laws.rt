@@ -1,11 +1,10 @@
 //! The laws of blocks' boxes. Each function does nothing, and its contract is the law.
 
-ghost use Rattle.std.specs.Prelude.{◌≡◌, ◌⊎◌, ℕ, ◌+◌, ◌*◌, ◌/◌, ◌%◌, ◌^◌, ◌<◌, ◌≤◌, List, map, Contains};
-ghost use Rattle.std.specs.List.{range_with_len};
+ghost use Rattle.std.specs.Prelude.{◌≡◌, ◌⊎◌, ℕ, ◌+◌, ◌*◌, ◌/◌, ◌%◌, ◌^◌, ◌<◌, ◌≤◌, List, Contains};
 ghost use Rattle.bf_id.specs.Cube.{Cube, Voxel, Holds, Within, Apart};
 ghost use Rattle.bf_id.specs.Meeting.{Meet};
 ghost use Rattle.bf_id.specs.Shape.{IsShape, root_count, root_cube, InDomain};
-ghost use Rattle.bf_id.specs.Id.{BlockId, IsId, level_of, root_id, child_of, box_of, InShape, Touch, Begins};
+ghost use Rattle.bf_id.specs.Id.{BlockId, IsId, level_of, root_ids, child_of, box_of, InShape, Touch, Begins};
 ghost use Rattle.bf_face.specs.Face.{opposite_of};
 ghost use Rattle.bf_id.specs.Face.{SharesFace};
 ghost use Rattle.bf_id.specs.Tiling.{Tiles, IsBalanced, split_at, merged_at};
@@ -75,8 +74,8 @@ pub fn blocks_lie_in_the_domain()
 
 /// The roots tile the domain, and are balanced.
 pub fn roots_tile()
-    ensures tile { (shape : Shape) → IsShape shape → Tiles shape (map root_id (range_with_len 0 (root_count shape))) }
-    ensures balanced { (shape : Shape) → IsBalanced shape (map root_id (range_with_len 0 (root_count shape))) }
+    ensures tile { (shape : Shape) → IsShape shape → Tiles shape (root_ids shape) }
+    ensures balanced { (shape : Shape) → IsBalanced shape (root_ids shape) }
 {}
 
 /// Where a leaf gives way to its eight children, a tiling stays one.

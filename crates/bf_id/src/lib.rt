@@ -6,24 +6,28 @@
 //! have the same name or the same text.
 //!
 //! From its id come a block's parent and children, its box, whether it touches another block, and
-//! the face that it shares with it. The order of ids is the walk through the octrees: a block,
-//! and then all that lies in it, octant by octant.
+//! the face that it shares with it. A box is a [`Cube`] of units, which knows the units beside it
+//! and across its faces; all steps along an axis go by [`Axis`]. The order of ids is the walk
+//! through the octrees: a block, and then all that lies in it, octant by octant.
 #![tactic(auto)]
 
 mod axis;
+mod cube;
 mod id;
 mod id_text;
 pub mod laws;
 mod order;
 mod parse;
-mod region;
 mod shape;
+mod voxel;
 
 pub use axis::Axis;
+pub use cube::Cube;
 pub use id::Id;
 pub use id_text::IdText;
 pub use order::{a_child_has_one_parent, order_is_the_walk, order_is_total, texts_differ};
 pub use shape::Shape;
+pub use voxel::Voxel;
 
 #[cfg(test)]
 mod tests;

@@ -2,7 +2,7 @@
 use Rattle.std.proofs.Common.{◌≡◌, ◌≢◌, ℕ, Bool, true, false, not, ◌&&◌, ◌||◌, ◌==◌, ◌+◌, ◌<◌, List, length, get_or, take, map, ◌⊎◌, inl, inr, refl, sym, ap, subst, ◌∙◌, arith, eqb-true, eq-eqb}
 use Rattle.std.proofs.Math.ListN.{set}
 use Rattle.std.proofs.lemmas.List.Folds.{list_any_more}
-use Rattle.std.proofs.lemmas.Bool.{cases_eq, cases_Bool, or_left, or_right, or_cases, and_parts, and_from, both_ways}
+use Rattle.std.proofs.lemmas.Bool.{cases_eq, cases_Bool, or_left, or_right, or_cases, and_parts, and_from, both_ways, not-true, not_from_false}
 use Rattle.std.proofs.lemmas.List.{get_or-set_same, get_or-set_other, get_or-map, length-map, length-set, get_or_default, ext_get_or}
 use Rattle.std.proofs.Math.Seq.{take-length}
 use Rattle.bf_id.specs.declared.shape.Shape.{Shape}
@@ -14,7 +14,7 @@ use Rattle.bf_case.specs.Map.{Leaf, ids_of}
 use Rattle.bf_case.proofs.TestLemmas.{touches_decides}
 use Rattle.bf_case.proofs.PlaceLemmas.{one_place, one_leaf_holds}
 use Rattle.bf_plain.specs.Atlas.{Chart, number_at, id_at}
-use Rattle.bf_plain.specs.Places.{place_beside, IsPlaced}
+use Rattle.bf_id.specs.Neighbours.{IsPlaced, place_beside}
 use Rattle.bf_plain.specs.Marks.{IsSurveyed, reaches, is_reached, is_finer}
 use Rattle.bf_plain.proofs.AtlasLemmas.{id_of_leaf}
 use Rattle.bf_plain.proofs.PlaceLemmas.{box_is_placed, meets_from_place, place_from_touch}
@@ -26,13 +26,6 @@ pub same_truth : (a b : Bool) → (a ≡ true → b ≡ true) → (b ≡ true �
 same_truth true b there back = sym (there refl)
 same_truth false true there back = back refl
 same_truth false false there back = refl
-
-pub not_true : (a : Bool) → not a ≡ true → a ≡ false
-not_true true e = cc
-not_true false e = refl
-
-pub not_false : (a : Bool) → a ≡ false → not a ≡ true
-not_false a e = ap not e
 
 -- ---- one more mark
 
@@ -80,14 +73,6 @@ pub record Around (shape : Shape) (ids : List BlockId) (chart : Chart) (finer le
   pub done : (s : ℕ) → s < step → is_finer ids finer leaf (number_at chart (place_beside shape (box_of shape (id_at ids leaf)) s)) ≡ true
       → get_or marks (number_at chart (place_beside shape (box_of shape (id_at ids leaf)) s)) false ≡ true
 
-pub Around-none : (shape : Shape) (ids : List BlockId) (chart : Chart) (finer leaf : ℕ) (marks : List Bool) → Around shape ids chart finer leaf marks 0 marks
-Around-none shape ids chart finer leaf marks = record {
-  full = refl;
-  stay = λ k marked. marked;
-  only = λ k below marked. inl marked;
-  done = λ s none. absurd (omega arith);
-}
-
 -- a leaf at a place around another one that is finer touches it
 reached_at : (shape : Shape) (ids : List BlockId) (chart : Chart) (finer leaf step found : ℕ) → IsSurveyed shape ids chart → leaf < length ids → found < length ids
     → Holds (box_of shape (id_at ids found)) (place_beside shape (box_of shape (id_at ids leaf)) step) → is_finer ids finer leaf found ≡ true
@@ -104,7 +89,7 @@ reached_at shape ids chart finer leaf step found is below found_in holds test =
     apart other same =
         let one : leaf ≡ found = one_place ids leaf found (id_at ids found) is.rising
         (below, λ d. get_or_default ids leaf d (root_id 0) below ∙ same) (found_in, λ d. get_or_default ids found d (root_id 0) found_in) in
-        both_ways (found == leaf) (not_true (found == leaf) other) (eq-eqb found leaf (sym one))
+        both_ways (found == leaf) (not-true (found == leaf) other) (eq-eqb found leaf (sym one))
 
 pub Around-more : (shape : Shape) (ids : List BlockId) (chart : Chart) (finer leaf step found : ℕ) (before marks : List Bool) → IsSurveyed shape ids chart
     → leaf < length ids → found < length ids → length before ≡ length ids
@@ -153,7 +138,7 @@ found_at shape ids chart finer leaf k is below k_in reached =
     (is.in_shape k (root_id 0) k_in) (is.in_shape leaf (root_id 0) below) (omega arith) touch.1 in
     let inside = domain_holds shape i (place_beside shape (box_of shape j) place.0) is.domain (is.named k (root_id 0) k_in) (is.in_shape k (root_id 0) k_in) place.2 in
     let named = is.charts.leaves (place_beside shape (box_of shape j) place.0) inside in
-    let other : not (k == leaf) ≡ true = not_false (k == leaf) (differs touch.0 (cases_Bool (k == leaf))) in (
+    let other : not (k == leaf) ≡ true = not_from_false (k == leaf) (differs touch.0 (cases_Bool (k == leaf))) in (
       place.0,
       place.1,
       one_leaf_holds shape ids (place_beside shape (box_of shape j) place.0) (number_at chart (place_beside shape (box_of shape j) place.0)) k (root_id 0) (root_id 0)
@@ -233,12 +218,6 @@ Around-next shape leaves chart finer k step found leaf block place also before m
     (omega (arith, full, length-map leaves (λ (l : Leaf). l.0))) (number ∙ ap (number_at chart) place_is) holds around in
     subst (λ b. Around shape ids chart finer k before (step + 1) (set marks found (get_or marks found false || b))) (sym test) next
 
--- what code finds at a place is the number of a leaf
-pub found_in_leaves : (shape : Shape) (leaves : List Leaf) (chart : Chart) (place : Voxel) (found : ℕ) → IsSurveyed shape (ids_of leaves) chart → InDomain shape place
-    → found ≡ number_at chart place → found < length leaves
-found_in_leaves shape leaves chart place found is inside number =
-    omega (arith, (is.charts.leaves place inside).below, number, length-map leaves (λ (l : Leaf). l.0))
-
 -- ---- from many leaves
 
 pub map_alike : {X Y : Type 0} (f g : X → Y) (xs : List X) → ((x : X) → f x ≡ g x) → map f xs ≡ map g xs
@@ -257,9 +236,6 @@ abbrev pub ReachedBy : Shape → List BlockId → ℕ → ℕ → List Bool → 
 ReachedBy shape ids finer count before sources marks =
     (p source : BlockId → Bool) → before ≡ map p ids → sources ≡ map source ids
     → marks ≡ map (λ i. p i || is_reached shape finer source (take count ids) i) ids
-
-pub ReachedBy-none : (shape : Shape) (ids : List BlockId) (finer : ℕ) (sources marks : List Bool) → ReachedBy shape ids finer 0 marks sources marks
-ReachedBy-none shape ids finer sources marks p source begun from = begun ∙ map_alike p (λ i. p i || false) ids (λ i. or_false (p i))
 
 reached_more : (shape : Shape) (ids : List BlockId) (finer k : ℕ) (source : BlockId → Bool) (i : BlockId) (now : Bool) → k < length ids → source (id_at ids k) ≡ now
     → is_reached shape finer source (take (k + 1) ids) i ≡ (is_reached shape finer source (take k ids) i || (now && reaches shape finer (id_at ids k) i))

@@ -2,7 +2,7 @@
 use Rattle.std.proofs.Common.{◌≡◌, ℕ, zero, suc, ◌+◌, ◌-◌, ◌<◌, ◌≤◌, Bool, true, false, not, ◌&&◌, ◌||◌, ◌==◌, List, [], ◌∷◌, ◌++◌, take, drop, IsTrue, ◌↔◌, Contains, filter, length, map, get_or, ◌⊎◌, inl, inr, refl, sym, ap, subst, ◌∙◌, arith, All}
 use Rattle.std.specs.Prelude.{nat_lt, AllPairs}
 use Rattle.std.specs.List.{list_all}
-use Rattle.std.proofs.lemmas.Bool.{and_parts, and_from, or_cases, or_left, or_right, both_ways, cases_Bool, cases_lt, ltb-true, lt-ltb, eqb-true, eq-eqb, false≢true}
+use Rattle.std.proofs.lemmas.Bool.{and_parts, and_from, or_cases, or_left, or_right, both_ways, cases_Bool, cases_lt, ltb-true, lt-ltb, eqb-true, eq-eqb, false≢true, or_from, or_parts, false_from_ne_true, not-true, not_from_false, not-false}
 use Rattle.std.proofs.lemmas.List.Elements.{All-contains, Contains-get_or, at_from_Contains}
 use Rattle.std.proofs.lemmas.List.{get_or-map, get_or_default, map-append, take_more, length-take, length-map, length-append}
 use Rattle.std.proofs.Math.Seq.{take-length, take-append_seam}
@@ -26,7 +26,7 @@ use Rattle.bf_plain.specs.Marks.{is_reached, reaches, IsSurveyed}
 use Rattle.bf_plain.specs.Octets.{leaf_merges, is_barred, is_held, is_free, stays_at, AreInOrder, StandsFree}
 use Rattle.bf_plain.proofs.AtlasLemmas.{id_of_leaf}
 use Rattle.bf_plain.proofs.RefiningLemmas.{refined_within-in}
-use Rattle.bf_plain.proofs.MarkLemmas.{same_truth, not_true, not_false, or_false, map_alike, count_of-ids}
+use Rattle.bf_plain.proofs.MarkLemmas.{same_truth, or_false, map_alike, count_of-ids}
 
 -- ---- what holds a leaf
 
@@ -47,18 +47,6 @@ reach_from shape finer source ids i j has on touch level =
     (and_from (source j) (reaches shape finer j i) on
     (and_from (touches shape j i) (level_of j == level_of i + finer) ((touches_decides shape j i).1 touch) (eq-eqb (level_of j) (level_of i + finer) level)))
 
-or_none : (a b : Bool) → a ≡ false → b ≡ false → (a || b) ≡ false
-or_none a b first second = rw (first, second) refl
-
-or_neither : (a b : Bool) → (a || b) ≡ false → (a ≡ false) × (b ≡ false)
-or_neither false b e = (refl, e)
-or_neither true b e = absurd (false≢true (sym e))
-
--- a truth value that cannot be true
-untrue : (a : Bool) → (a ≡ true → ⊥) → a ≡ false
-untrue true never = absurd (never refl)
-untrue false never = refl
-
 -- what is meant by a leaf that is not held, as far as leaves below a level are looked at
 record IsUnheld (shape : Shape) (ids : List BlockId) (w : Wishes) (refined : List BlockId) (level : ℕ) (i : BlockId) : Type 0 where
   wishes : w.coarser i ≡ true
@@ -66,20 +54,16 @@ record IsUnheld (shape : Shape) (ids : List BlockId) (w : Wishes) (refined : Lis
   calm : (j : BlockId) → Contains ids j → is_among refined j ≡ true → Touch shape j i → level_of j ≡ level_of i → ⊥
   finer : (j : BlockId) → Contains ids j → Touch shape j i → level_of j ≡ level_of i + 1 → level < level_of j → leaf_merges shape ids w refined j ≡ true
 
-not_not : (a : Bool) → not a ≡ false → a ≡ true
-not_not true e = refl
-not_not false e = absurd (false≢true (sym e))
-
 unheld : (shape : Shape) (ids : List BlockId) (w : Wishes) (refined : List BlockId) (level : ℕ) (i : BlockId) → is_held shape ids w refined level i ≡ false
     → IsUnheld shape ids w refined level i
 unheld shape ids w refined level i e =
     let r : BlockId → Bool = is_among refined in
     let stays : BlockId → Bool = λ j. nat_lt level (level_of j) && not (leaf_merges shape ids w refined j) in
-    let outer = or_neither (is_barred shape ids w.coarser r i) (is_reached shape 1 stays ids i) e in
-    let barred = or_neither (not (w.coarser i) || r i) (is_reached shape 0 r ids i) outer.0 in
-    let own = or_neither (not (w.coarser i)) (r i) barred.0 in
+    let outer = or_parts (is_barred shape ids w.coarser r i) (is_reached shape 1 stays ids i) e in
+    let barred = or_parts (not (w.coarser i) || r i) (is_reached shape 0 r ids i) outer.0 in
+    let own = or_parts (not (w.coarser i)) (r i) barred.0 in
     record {
-      wishes = not_not (w.coarser i) own.0;
+      wishes = not-false (w.coarser i) own.0;
       unrefined = own.1;
       calm = λ j has on touch same. both_ways (is_reached shape 0 r ids i) barred.1 (reach_from shape 0 r ids i j has on touch (omega arith));
       finer = λ j has touch one above. finer_by j has touch one above (cases_Bool (leaf_merges shape ids w refined j)) outer.1;
@@ -92,21 +76,21 @@ unheld shape ids w refined level i e =
     finer_by j has touch one above (inr staying) none =
         absurd (both_ways (is_reached shape 1 (λ j. nat_lt level (level_of j) && not (leaf_merges shape ids w refined j)) ids i) none
         (reach_from shape 1 (λ j. nat_lt level (level_of j) && not (leaf_merges shape ids w refined j)) ids i j has
-        (and_from (nat_lt level (level_of j)) (not (leaf_merges shape ids w refined j)) (lt-ltb level (level_of j) above) (not_false (leaf_merges shape ids w refined j) staying)) touch one))
+        (and_from (nat_lt level (level_of j)) (not (leaf_merges shape ids w refined j)) (lt-ltb level (level_of j) above) (not_from_false (leaf_merges shape ids w refined j) staying)) touch one))
 
 not_held : (shape : Shape) (ids : List BlockId) (w : Wishes) (refined : List BlockId) (level : ℕ) (i : BlockId)
     → IsUnheld shape ids w refined level i → is_held shape ids w refined level i ≡ false
 not_held shape ids w refined level i is =
     let r : BlockId → Bool = is_among refined in
     let stays : BlockId → Bool = λ j. nat_lt level (level_of j) && not (leaf_merges shape ids w refined j) in
-    or_none (is_barred shape ids w.coarser r i) (is_reached shape 1 stays ids i)
-    (or_none (not (w.coarser i) || r i) (is_reached shape 0 r ids i)
-    (or_none (not (w.coarser i)) (r i) (ap not is.wishes) is.unrefined)
-    (untrue (is_reached shape 0 r ids i) (λ e. let f = reach_parts shape 0 r ids i e in is.calm f.0 f.1 f.2 f.3 (omega (arith, f.4)))))
-    (untrue (is_reached shape 1 stays ids i) (λ e.
+    or_from (is_barred shape ids w.coarser r i) (is_reached shape 1 stays ids i)
+    (or_from (not (w.coarser i) || r i) (is_reached shape 0 r ids i)
+    (or_from (not (w.coarser i)) (r i) (ap not is.wishes) is.unrefined)
+    (false_from_ne_true (is_reached shape 0 r ids i) (λ e. let f = reach_parts shape 0 r ids i e in is.calm f.0 f.1 f.2 f.3 (omega (arith, f.4)))))
+    (false_from_ne_true (is_reached shape 1 stays ids i) (λ e.
     let f = reach_parts shape 1 stays ids i e in
     let parts = and_parts (nat_lt level (level_of f.0)) (not (leaf_merges shape ids w refined f.0)) f.2 in
-    both_ways (leaf_merges shape ids w refined f.0) (not_true (leaf_merges shape ids w refined f.0) parts.1)
+    both_ways (leaf_merges shape ids w refined f.0) (not-true (leaf_merges shape ids w refined f.0) parts.1)
     (is.finer f.0 f.1 f.3 f.4 (ltb-true level (level_of f.0) parts.0))))
 
 -- ---- octets
@@ -119,7 +103,7 @@ eight_from_free : (ids : List BlockId) (held : BlockId → Bool) (p : BlockId) �
 eight_from_free ids held p all octant small =
     let i = child_of p octant in
     let parts = and_parts (is_among ids i) (not (held i)) (each_from_all (λ j. is_among ids j && not (held j)) (children_of p) i all (Contains-child p octant small)) in
-    ((any_id_decides ids i).0 parts.0, not_true (held i) parts.1)
+    ((any_id_decides ids i).0 parts.0, not-true (held i) parts.1)
 
 free_from_eight : (ids : List BlockId) (held : BlockId → Bool) (p : BlockId) → AllEight ids held p → list_all (λ j. is_among ids j && not (held j)) (children_of p) ≡ true
 free_from_eight ids held p eight =
@@ -129,7 +113,7 @@ free_from_eight ids held p eight =
     one i (o, small, child) =
         let both = eight o small in
         ap (λ j. is_among ids j && not (held j)) child
-        ∙ and_from (is_among ids (child_of p o)) (not (held (child_of p o))) ((any_id_decides ids (child_of p o)).1 both.0) (not_false (held (child_of p o)) both.1)
+        ∙ and_from (is_among ids (child_of p o)) (not (held (child_of p o))) ((any_id_decides ids (child_of p o)).1 both.0) (not_from_false (held (child_of p o)) both.1)
 
 -- leaves of at most four levels, and refined ones among them
 pub record AreShallow (ids refined : List BlockId) : Type 0 where
@@ -180,8 +164,8 @@ merges_from_eight shape ids w refined level p are above eight =
     and_from (list_all eager octet && list_all calm refined) (list_all follow (filter near ids))
     (and_from (list_all eager octet) (list_all calm refined)
     (all_from_each eager octet (λ i has. eager_at i (Contains-child_cases p i has)))
-    (all_from_each calm refined (λ j has. not_false (level_of j == level_of p + 1 && touched_by shape octet j)
-    (untrue (level_of j == level_of p + 1 && touched_by shape octet j) (λ e. calm_at j has (and_parts (level_of j == level_of p + 1) (touched_by shape octet j) e))))))
+    (all_from_each calm refined (λ j has. not_from_false (level_of j == level_of p + 1 && touched_by shape octet j)
+    (false_from_ne_true (level_of j == level_of p + 1 && touched_by shape octet j) (λ e. calm_at j has (and_parts (level_of j == level_of p + 1) (touched_by shape octet j) e))))))
     (all_from_each follow (filter near ids) (λ j has.
     let kept = Contains-filter_cases near ids j has in
     follow_at j kept.0 (and_parts (level_of j == level_of p + 2) (touched_by shape octet j) kept.1)))
@@ -195,7 +179,7 @@ merges_from_eight shape ids w refined level p are above eight =
         ap (λ (j : BlockId). is_among ids j && w.coarser j && not (is_among refined j)) child
         ∙ and_from (is_among ids k && w.coarser k) (not (is_among refined k))
         (and_from (is_among ids k) (w.coarser k) ((any_id_decides ids k).1 (eight o small).0) (is o small).wishes)
-        (not_false (is_among refined k) (is o small).unrefined)
+        (not_from_false (is_among refined k) (is o small).unrefined)
 
     calm_at : (j : BlockId) → Contains refined j → (level_of j == level_of p + 1 ≡ true) × (touched_by shape (children_of p) j ≡ true) → ⊥
     calm_at j has (level', touched) =
@@ -238,7 +222,7 @@ pub held_at_first : (shape : Shape) (ids : List BlockId) (w : Wishes) (refined :
 held_at_first shape ids w refined levels i shallow =
     let stays : BlockId → Bool = λ j. nat_lt levels (level_of j) && not (leaf_merges shape ids w refined j) in
     or_false (is_barred shape ids w.coarser (is_among refined) i)
-    ∙ ap (λ b. is_barred shape ids w.coarser (is_among refined) i || b) (sym (untrue (is_reached shape 1 stays ids i) (λ e.
+    ∙ ap (λ b. is_barred shape ids w.coarser (is_among refined) i || b) (sym (false_from_ne_true (is_reached shape 1 stays ids i) (λ e.
     let f = reach_parts shape 1 stays ids i e in
     let deep : levels < level_of f.0 = ltb-true levels (level_of f.0) (and_parts (nat_lt levels (level_of f.0)) (not (leaf_merges shape ids w refined f.0)) f.2).0 in
     omega (arith, deep, All-contains (λ j. level_of j ≤ levels) ids f.0 shallow f.1))))
@@ -358,13 +342,6 @@ places_from_free shape ids marks held k tiles named rising are below free =
           record { below = at.0; child = is; free = mark_at ids marks held (first.0 + o) are at.0 ∙ ap held is ∙ (eight o small).1 }),
     )
 
--- a root has no octet
-pub root_is_not_free : (ids : List BlockId) (held : BlockId → Bool) (i : BlockId) → level_of i ≡ 0 → is_free ids held i ≡ false
-root_is_not_free ids held i root =
-    untrue (is_free ids held i) (λ e.
-    let deep : 0 < level_of i = ltb-true 0 (level_of i) (and_parts (nat_lt 0 (level_of i)) (list_all (λ j. is_among ids j && not (held j)) (children_of (parent_of i))) e).0 in
-    omega (arith, deep, root))
-
 -- ---- marks one by one
 
 -- one more value of a function
@@ -470,7 +447,7 @@ pub no_room_before : (leaves : List Leaf) (marks : List Bool) (held : BlockId �
 no_room_before leaves marks held k octant leaf is are below at octant_is far =
     let ids = ids_of leaves in
     let octant_own : octant ≡ octant_of (id_at ids k) = octant_is ∙ ap octant_of (id_of_leaf leaves k leaf below at) in
-    untrue (is_free ids held (id_at ids k)) (λ free.
+    false_from_ne_true (is_free ids held (id_at ids k)) (λ free.
     let fits : octant_of (id_at ids k) ≤ k = (places_from_free is.shape ids marks held k is.tiling is.named is.rising are (count_of-ids leaves k below) free).0 in
     omega (arith, far, fits, octant_own))
 

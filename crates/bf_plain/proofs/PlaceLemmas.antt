@@ -12,7 +12,7 @@ use Rattle.bf_id.specs.Id.{BlockId, IsId, InShape, level_of, box_of}
 use Rattle.bf_id.proofs.Boxes.{root_in_domain, edge-box}
 use Rattle.bf_id.proofs.Cubes.{narrowed_within}
 use Rattle.bf_case.specs.Sample.{scale_of}
-use Rattle.bf_plain.specs.Places.{unit_beside, place_beside, IsPlaced}
+use Rattle.bf_id.specs.Neighbours.{IsPlaced, place_beside, unit_beside}
 use Rattle.bf_plain.proofs.AtlasLemmas.{IsMultiple, OnGrid, box_on_grid, box_on_fine_grid}
 
 -- ---- along one axis

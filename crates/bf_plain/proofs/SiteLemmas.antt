@@ -19,7 +19,8 @@ use Rattle.bf_cells.specs.Shell.{Walls, face_cell, face_values, wall_at, wall_of
 use Rattle.bf_cells.proofs.LevelLemmas.{get_or-doubled_face, get_or-with_quarter}
 use Rattle.bf_cells.proofs.WallLemmas.{get_or-face_values, side-with_wall, wall_of-with_wall_other, wall_of-with_wall_same}
 use Rattle.bf_case.specs.declared.case.Case.{Case}
-use Rattle.bf_case.specs.Beside.{unit_across, value_beside, HoldsBeside, IsAtEdge, LiesAcross}
+use Rattle.bf_id.specs.Neighbours.{IsAtEdge, IsPlaced, unit_across}
+use Rattle.bf_case.specs.Beside.{value_beside, HoldsBeside, LiesAcross}
 use Rattle.bf_case.specs.Map.{Leaf, HasCells, IsMap, ids_of}
 use Rattle.bf_case.specs.Sample.{scale_of}
 use Rattle.bf_case.proofs.AcrossLemmas.{EndsIn, across_in_domain, across_leaves, edge_beside, finer_beside, finer_everywhere, half_within, leaf_edge, levels_near, same_beside}
@@ -28,9 +29,8 @@ use Rattle.bf_case.specs.Halves.{first_half, second_half, ShareFace}
 use Rattle.bf_case.proofs.BlockSteps.{box_ends}
 use Rattle.bf_case.proofs.ListLemmas.{Contains-map}
 use Rattle.bf_plain.specs.Atlas.{Chart}
-use Rattle.bf_plain.specs.Places.{IsPlaced}
 use Rattle.bf_plain.proofs.PlaceLemmas.{box_is_placed}
-use Rattle.bf_plain.specs.Survey.{IsFinerAcross, IsNarrow, IsSite, KeepsOthers}
+use Rattle.bf_plain.specs.Survey.{IsFinerAcross, IsSite, KeepsOthers}
 
 -- ---- the leaf
 
@@ -68,18 +68,6 @@ pub placed : (c : Case) (leaves : List Leaf) (chart : Chart) (i : BlockId) (g : 
 placed c leaves chart i g box site =
     let facts = known c leaves chart i g box site in
     subst (IsPlaced c.roots) (sym site.boxed) (box_is_placed c.roots i facts.domain facts.id facts.in_shape)
-
-pub narrow : (c : Case) (leaves : List Leaf) (chart : Chart) (i : BlockId) (g : Grid) (box : Cube) → IsSite c leaves chart i g box → IsNarrow box
-narrow c leaves chart i g box site =
-    let at = placed c leaves chart i g box site in
-    let domain = site.charted.valid.sized.shape in
-    let few_x = domain.few_x in
-    let few_y = domain.few_y in
-    let few_z = domain.few_z in
-    let x_end = at.along_x in
-    let y_end = at.along_y in
-    let z_end = at.along_z in
-    record { along_x = omega arith; along_y = omega arith; along_z = omega arith }
 
 -- the unit across an inner face lies in the domain
 pub unit_in_domain : (c : Case) (leaves : List Leaf) (chart : Chart) (i : BlockId) (g : Grid) (box : Cube) (face : Face) (a b : ℕ) (unit : Voxel)
@@ -129,12 +117,6 @@ met c leaves chart i g box face unit other site inner is has held =
     let some = subst (λ (d : Cube). 0 < d.edge) site.boxed (placed c leaves chart i g box site).some in
     let near = levels_near c.roots c.side leaves i other.0 g other.1 face 0 0 facts.domain site.charted.map.balanced lies some some in
     record { lies = lies; no_coarser = near.0; no_finer = near.1 }
-
--- a leaf of the map is in the domain
-pub leaf_in_domain : (c : Case) (leaves : List Leaf) (chart : Chart) (i : BlockId) (g : Grid) (box : Cube) (other : Leaf) → IsSite c leaves chart i g box
-    → Contains leaves other → InShape c.roots other.0
-leaf_in_domain c leaves chart i g box other site has =
-    All-contains (InShape c.roots) (ids_of leaves) other.0 site.charted.map.map.in_shape (Contains-map (λ (leaf : Leaf). leaf.0) leaves other has)
 
 -- ---- a square that was laid
 

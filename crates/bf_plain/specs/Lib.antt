@@ -1,7 +1,6 @@
 pub mod Atlas
 pub mod Beginning
 pub mod Rebuild
-pub mod Places
 pub mod Marks
 pub mod Octets
 pub mod Survey

@@ -29,12 +29,6 @@ pub record IsFinerAcross (c : Case) (leaves : List Leaf) (i : BlockId) (g : Grid
   pub lies : LiesAcross c.roots c.side leaves (i, g) face 0 0 other
   pub finer : level_of other.0 ≡ level_of i + 1
 
--- the cube ends where the widest domain does, or before
-pub record IsNarrow (c : Cube) : Type 0 where
-  pub along_x : c.x + c.edge ≤ 256
-  pub along_y : c.y + c.edge ≤ 256
-  pub along_z : c.z + c.edge ≤ 256
-
 -- the squares of the other faces stay
 abbrev pub KeepsOthers : Walls → Walls → Face → Type 0
 KeepsOthers old new face = (other : Face) → other ≢ face → wall_of new other ≡ wall_of old other

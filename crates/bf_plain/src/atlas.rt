@@ -23,27 +23,9 @@ ghost use Rattle.bf_plain.specs.Atlas.{
 use bf_case::Case;
 use bf_cells::Cells;
 use bf_edge::Memory;
-use bf_id::{Id, Shape};
+use bf_id::{Id, Shape, Voxel};
 use std::alloc::Global;
 use std::marker::Model;
-
-/// A unit of space, of which a root's edge has 16, by its low corner.
-#[derive(Clone, Copy, Debug, PartialEq, Eq)]
-pub struct Voxel {
-    pub x: u32,
-    pub y: u32,
-    pub z: u32,
-}
-
-impl Model for Voxel {
-    ghost use Rattle.bf_id.specs.Cube.{Voxel};
-
-    ghost Value = { Voxel };
-
-    ghost view = { λ v. record { x = v.x; y = v.y; z = v.z } };
-
-    ghost inverse = { λ v. record { x = v.x; y = v.y; z = v.z } };
-}
 
 /// For each box of the finest level, the number of the leaf that has it.
 #[derive(Drop)]

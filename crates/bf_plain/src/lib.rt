@@ -8,7 +8,6 @@ mod copies;
 mod faces;
 mod marks;
 mod merging;
-mod places;
 mod rebuild;
 mod refining;
 mod regridding;

@@ -6,7 +6,6 @@ ghost use Rattle.bf_plain.specs.Atlas.{id_at};
 ghost use Rattle.bf_plain.specs.Marks.{is_finer, is_reached, reaches, IsSurveyed};
 
 use crate::atlas::Atlas;
-use crate::places::Block;
 use bf_cells::Cells;
 use bf_edge::Memory;
 use bf_id::{Id, Shape};
@@ -42,9 +41,9 @@ fn mark_around(
     ensures full { length marks.new ≡ length leaves.now }
 {
     let (id, _) = &leaves[leaf];
-    let block = Block::of(*id, shape);
+    let cube = id.cube(shape);
     for step in 0..27 {
-        let found = atlas.leaf_at(block.beside(shape, step));
+        let found = atlas.leaf_at(cube.beside(shape, step));
         marks[found] |= is_finer(leaves, finer, leaf, found);
     }
 }

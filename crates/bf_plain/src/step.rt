@@ -10,7 +10,6 @@ ghost use Rattle.bf_plain.specs.Survey.{IsCharted};
 
 use crate::atlas::Atlas;
 use crate::copies::copied;
-use crate::places::Block;
 use crate::walls::{Site, Survey};
 use bf_case::{Case, Map};
 use bf_cells::{Cells, Shell};
@@ -31,11 +30,11 @@ fn step_leaf(survey: Survey<'_>, own: usize, shell: &mut Shell, into: &mut Cells
     ensures into_side { into.new.side ≡ into.old.side }
 {
     let (id, cells) = &survey.leaves[own];
-    let block = Block::of(*id, survey.case.roots);
+    let cube = id.cube(survey.case.roots);
     let site = Site {
         id: *id,
         cells,
-        block,
+        cube,
     };
     survey.surround(shell, &site);
     cells.kernel(shell, into);

@@ -6,17 +6,17 @@ ghost use Rattle.bf_id.specs.Id.{box_of, level_of, octant_of};
 ghost use Rattle.bf_id.specs.Shape.{InDomain};
 ghost use Rattle.bf_cells.specs.Levels.{doubled_face};
 ghost use Rattle.bf_cells.specs.Shell.{with_wall};
-ghost use Rattle.bf_case.specs.Beside.{HoldsBeside, HoldSamples, IsAtEdge};
+ghost use Rattle.bf_id.specs.Neighbours.{IsAtEdge};
+ghost use Rattle.bf_case.specs.Beside.{HoldsBeside, HoldSamples};
 ghost use Rattle.bf_case.specs.Halves.{first_half, second_half};
 ghost use Rattle.bf_plain.specs.Survey.{IsCharted, IsFinerAcross, IsSite, KeepsOthers};
 
-use crate::atlas::{Atlas, Voxel};
-use crate::faces::{halves, octant_of};
-use crate::places::Block;
+use crate::atlas::Atlas;
+use crate::faces::{across_quarter, halves, octant_of};
 use bf_case::Case;
 use bf_cells::{Cells, Shell};
 use bf_face::Face;
-use bf_id::Id;
+use bf_id::{Cube, Id, Voxel};
 
 /// The leaves of a map, with their atlas.
 #[derive(Clone, Copy)]
@@ -31,7 +31,7 @@ pub(crate) struct Survey<'a> {
 pub(crate) struct Site<'a> {
     pub id: Id,
     pub cells: &'a Cells,
-    pub block: Block,
+    pub cube: Cube,
 }
 
 /// Lays next to a face of a block the quarter that lies across it of a leaf one level coarser.
@@ -58,7 +58,7 @@ impl<'a> Survey<'a> {
 
     /// Lays next to a face of a leaf the means of the four leaves across it, which are one level finer.
     fn lay_finer(self, shell: &mut Shell, site: &Site<'_>, face: Face)
-        requires site { IsSite self.case.now self.leaves.now self.atlas.now site.now.id site.now.cells.now site.now.block }
+        requires site { IsSite self.case.now self.leaves.now self.atlas.now site.now.id site.now.cells.now site.now.cube }
         requires finer { IsFinerAcross self.case.now self.leaves.now site.now.id site.now.cells.now face }
         requires side { shell.old.side ≡ self.case.now.side }
         ensures face { HoldsBeside self.entry.case.now.roots self.entry.leaves.now site.now.id site.now.cells.now shell.new face }
@@ -68,9 +68,7 @@ impl<'a> Survey<'a> {
         for quarter in 0..4 {
             let half_a = quarter % 2;
             let half_b = quarter / 2;
-            let unit = site
-                .block
-                .across_quarter(self.case.roots, face, half_a, half_b);
+            let unit = across_quarter(site.cube, self.case.roots, face, half_a, half_b);
             let (_, cells) = self.leaf_with(unit);
             shell.set_quarter_means(face, half_a, half_b, cells, face.opposite());
         }
@@ -78,14 +76,14 @@ impl<'a> Survey<'a> {
 
     /// Lays what lies across a face of a leaf, which isn't at the domain's edge.
     fn lay_across(self, shell: &mut Shell, site: &Site<'_>, face: Face)
-        requires site { IsSite self.case.now self.leaves.now self.atlas.now site.now.id site.now.cells.now site.now.block }
-        requires inner { IsAtEdge self.case.now.roots site.now.block face → ⊥ }
+        requires site { IsSite self.case.now self.leaves.now self.atlas.now site.now.id site.now.cells.now site.now.cube }
+        requires inner { IsAtEdge self.case.now.roots site.now.cube face → ⊥ }
         requires side { shell.old.side ≡ self.case.now.side }
         ensures face { HoldsBeside self.entry.case.now.roots self.entry.leaves.now site.now.id site.now.cells.now shell.new face }
         ensures others { KeepsOthers shell.old shell.new face }
         ensures side { shell.new.side ≡ shell.old.side }
     {
-        let unit = site.block.across(self.case.roots, face, 0, 0);
+        let unit = site.cube.across(self.case.roots, face, 0, 0);
         let (other, cells) = self.leaf_with(unit);
         if other.level() > site.id.level() {
             self.lay_finer(shell, site, face);
@@ -98,13 +96,13 @@ impl<'a> Survey<'a> {
 
     /// Lays what lies next to a face of a leaf: what lies across it, or at the domain's edge the leaf's own cells.
     fn lay_face(self, shell: &mut Shell, site: &Site<'_>, face: Face)
-        requires site { IsSite self.case.now self.leaves.now self.atlas.now site.now.id site.now.cells.now site.now.block }
+        requires site { IsSite self.case.now self.leaves.now self.atlas.now site.now.id site.now.cells.now site.now.cube }
         requires side { shell.old.side ≡ self.case.now.side }
         ensures face { HoldsBeside self.entry.case.now.roots self.entry.leaves.now site.now.id site.now.cells.now shell.new face }
         ensures others { KeepsOthers shell.old shell.new face }
         ensures side { shell.new.side ≡ shell.old.side }
     {
-        if site.block.is_at_edge(self.case.roots, face) {
+        if site.cube.is_at_edge(self.case.roots, face) {
             shell.set_wall(face, site.cells, face);
         } else {
             self.lay_across(shell, site, face);
@@ -113,7 +111,7 @@ impl<'a> Survey<'a> {
 
     /// Lays what lies next to all faces of a leaf.
     pub(crate) fn surround(self, shell: &mut Shell, site: &Site<'_>)
-        requires site { IsSite self.case.now self.leaves.now self.atlas.now site.now.id site.now.cells.now site.now.block }
+        requires site { IsSite self.case.now self.leaves.now self.atlas.now site.now.id site.now.cells.now site.now.cube }
         requires side { shell.old.side ≡ self.case.now.side }
         ensures samples { HoldSamples self.entry.case.now.roots self.entry.leaves.now site.now.id site.now.cells.now shell.new }
         ensures side { shell.new.side ≡ shell.old.side }

@@ -4,11 +4,11 @@ ghost use Rattle.bf_case.specs.Case.{IsValid};
 ghost use Rattle.bf_case.specs.Map.{IsBalancedMap};
 
 use super::targets_of;
-use crate::atlas::{Atlas, Voxel};
+use crate::atlas::Atlas;
 use bf_case::{Case, Fill, Target, filled_root};
 use bf_cells::Cells;
 use bf_edge::Memory;
-use bf_id::{Id, Shape};
+use bf_id::{Id, Shape, Voxel};
 use bf_items::Items;
 use std::alloc::Global;
 use std::test::Fail;

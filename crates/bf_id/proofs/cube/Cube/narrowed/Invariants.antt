@@ -1,6 +1,6 @@
 use Rattle.std.proofs.Common.{◌≡◌, drop}
 use Rattle.bf_id.specs.Cube.{narrowed}
-use Rattle.bf_id.proofs.region.Region.narrowed.Given as goal
+use Rattle.bf_id.proofs.cube.Cube.narrowed.Given as goal
 
 -- what is left to halve by gives what was to be made
 abbrev pub invariant-loop-octant : goal.invariant-loop-octant
