@@ -3,6 +3,7 @@ use Rattle.std.proofs.Common.{◌≡◌, ℕ, ◌+◌, ◌<◌, ◌≤◌, List,
 use Rattle.std.specs.Prelude.{AllPairs}
 use Rattle.std.proofs.lemmas.Bool.{both_ways, cases_Bool, cases_lt, cases_order, cond-true, cond-false, cond_both, eqb-true, eq-eqb, ne_eqb}
 use Rattle.std.proofs.lemmas.List.Elements.{All-head, All-contains, Contains-get_or}
+use Rattle.bf_lemmas.proofs.Lists.{All-from_Contains}
 use Rattle.bf_id.proofs.Rising.{AllPairs-nil}
 use Rattle.bf_id.specs.declared.shape.Shape.{Shape}
 use Rattle.bf_id.specs.Cube.{Cube, Voxel, Holds, Within}
@@ -121,9 +122,6 @@ shifted shape levels ids target i a sound comes = by (target i) refl comes.1
     by Merge is parent = ap (λ b. level_of b + 1) parent ∙ level-parent i (sound.octets i comes.0 is).child
 
 -- ---- names
-
-All-from_Contains : (P : BlockId → Type 0) (ids : List BlockId) → ((i : BlockId) → Contains ids i → P i) → All P ids
-All-from_Contains P ids each k d h = each (get_or ids k d) (Contains-get_or ids k d h)
 
 -- what is true of each old leaf, of its children if it is refined and of its parent if it merges, is true of each new leaf
 heirs_All : (shape : Shape) (levels : ℕ) (ids : List BlockId) (target : BlockId → Target) (P : BlockId → Type 0) → IsRegridded shape levels ids target

@@ -1,8 +1,11 @@
 //! Cases, and the model of a simulation: which map it has at each time.
 //!
 //! The model is a definition. It has one map of leaves for each time and knows of no ranks and no
-//! messages. [`Case::valid`] tells the cases that it is for, [`laws`] has what is proved of maps,
-//! and [`rows`] has small cases whose maps are written out.
+//! messages. [`laws`] has what is proved of maps, and [`rows`] has small cases whose maps are
+//! written out.
+//!
+//! All of it is about valid cases. [`Case::valid`] is for whoever makes a case of numbers, and
+//! tests it once; a case that was read from a text is valid, by the law of its reader.
 #![tactic(auto)]
 
 mod case;

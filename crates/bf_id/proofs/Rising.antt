@@ -9,7 +9,7 @@ use Rattle.std.specs.Cmp.Lexicographic.{slice_cmp}
 use Rattle.std.specs.Cmp.{IsTotalOrder}
 use Rattle.std.proofs.lemmas.Cmp.{nat_cmp_total, tied_itself, ranked, then_total, on_total, lists_total}
 use Rattle.std.proofs.lemmas.List.{append-nil, append_assoc}
-use Rattle.std.proofs.lemmas.List.Elements.{All-append, All-cons, Contains-append_left, Contains-append_right}
+use Rattle.std.proofs.lemmas.List.Elements.{All-append, All-cons, All-nil, Contains-append_left, Contains-append_right}
 use Rattle.std.proofs.lemmas.List.Kept.{AllPairs-cons}
 use Rattle.std.proofs.lemmas.Map.Lookups.{exact_bytes}
 use Rattle.bf_id.proofs.Boxes.{same_id, level-child, All-end}
@@ -50,9 +50,6 @@ before_later : (i j k : BlockId) (octant : ℕ) → Begins (child_of i octant) j
 before_later i j k octant first later =
     let in_child : j.digits ≡ i.digits ++ octant ∷ first.1.0 = first.1.1 ∙ append_assoc i.digits (octant ∷ []) first.1.0 in
     before_from_digits j k (sym first.0 ∙ later.same_root) (rw (in_child, later.digits) (later_Less i.digits octant later.octant first.1.0 later.rest (omega arith)))
-
-All-nil : {X : Type 0} (P : X → Type 0) → All P []
-All-nil P = λ k d h. absurd (omega arith)
 
 pub AllPairs-nil : {X : Type 0} (R : X → X → Type 0) → AllPairs R []
 AllPairs-nil R = λ i j d below h. absurd (omega arith)

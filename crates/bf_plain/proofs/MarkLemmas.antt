@@ -5,6 +5,7 @@ use Rattle.std.proofs.lemmas.List.Folds.{list_any_more}
 use Rattle.std.proofs.lemmas.Bool.{cases_eq, cases_Bool, or_left, or_right, or_cases, and_parts, and_from, both_ways, not-true, not_from_false}
 use Rattle.std.proofs.lemmas.List.{get_or-set_same, get_or-set_other, get_or-map, length-map, length-set, get_or_default, ext_get_or}
 use Rattle.std.proofs.Math.Seq.{take-length}
+use Rattle.bf_lemmas.proofs.Tests.{same_tests}
 use Rattle.bf_id.specs.declared.shape.Shape.{Shape}
 use Rattle.bf_id.specs.Cube.{Cube, Voxel, Holds}
 use Rattle.bf_id.specs.Shape.{InDomain}
@@ -20,12 +21,6 @@ use Rattle.bf_plain.proofs.AtlasLemmas.{id_of_leaf}
 use Rattle.bf_plain.proofs.PlaceLemmas.{box_is_placed, meets_from_place, place_from_touch}
 
 -- ---- truth values
-
--- truth values of which each follows from the other are one
-pub same_truth : (a b : Bool) → (a ≡ true → b ≡ true) → (b ≡ true → a ≡ true) → a ≡ b
-same_truth true b there back = sym (there refl)
-same_truth false true there back = back refl
-same_truth false false there back = refl
 
 -- ---- one more mark
 
@@ -178,7 +173,7 @@ marks_from_around shape ids chart finer leaf before marks p is below around begu
     each : (k : ℕ) → k < length marks → get_or marks k false ≡ get_or (map q ids) k false
     each k k_in' =
         let k_in : k < length ids = omega (arith, around.full, ap length begun, length-map ids p) in
-        same_truth (get_or marks k false) (p (id_at ids k) || reaches shape finer (id_at ids leaf) (id_at ids k))
+        same_tests (get_or marks k false) (p (id_at ids k) || reaches shape finer (id_at ids leaf) (id_at ids k))
         (λ marked. there k k_in (around.only k k_in marked))
         (λ either. back k k_in (or_cases (p (id_at ids k)) (reaches shape finer (id_at ids leaf) (id_at ids k)) either))
         ∙ sym (get_or-map q ids k (root_id 0) false k_in)

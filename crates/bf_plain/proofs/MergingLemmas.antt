@@ -6,6 +6,7 @@ use Rattle.std.proofs.lemmas.Bool.{and_parts, and_from, or_cases, or_left, or_ri
 use Rattle.std.proofs.lemmas.List.Elements.{All-contains, Contains-get_or, at_from_Contains}
 use Rattle.std.proofs.lemmas.List.{get_or-map, get_or_default, map-append, take_more, length-take, length-map, length-append}
 use Rattle.std.proofs.Math.Seq.{take-length, take-append_seam}
+use Rattle.bf_lemmas.proofs.Tests.{same_tests}
 use Rattle.bf_id.specs.declared.shape.Shape.{Shape}
 use Rattle.bf_id.specs.Id.{BlockId, IsId, level_of, parent_of, octant_of, child_of, children_of, root_id, Touch, touches}
 use Rattle.bf_id.specs.Tiling.{Tiles}
@@ -26,7 +27,7 @@ use Rattle.bf_plain.specs.Marks.{is_reached, reaches, IsSurveyed}
 use Rattle.bf_plain.specs.Octets.{leaf_merges, is_barred, is_held, is_free, stays_at, AreInOrder, StandsFree}
 use Rattle.bf_plain.proofs.AtlasLemmas.{id_of_leaf}
 use Rattle.bf_plain.proofs.RefiningLemmas.{refined_within-in}
-use Rattle.bf_plain.proofs.MarkLemmas.{same_truth, or_false, map_alike, count_of-ids}
+use Rattle.bf_plain.proofs.MarkLemmas.{or_false, map_alike, count_of-ids}
 
 -- ---- what holds a leaf
 
@@ -203,7 +204,7 @@ merges_where_free shape ids w refined level i are above =
     let deep = nat_lt 0 (level_of i) in
     let free = list_all (λ j. is_among ids j && not (is_held shape ids w refined level j)) (children_of (parent_of i)) in
     let one : 0 < level_of i → level ≤ level_of (parent_of i) + 1 = λ some. omega (arith, above, level-parent i (child_of_parent i some)) in
-    same_truth (leaf_merges shape ids w refined i) (is_free ids (is_held shape ids w refined level) i)
+    same_tests (leaf_merges shape ids w refined i) (is_free ids (is_held shape ids w refined level) i)
     (λ joining.
     let parts = and_parts deep (merges shape ids w refined (parent_of i)) joining in
     and_from deep free parts.0 (free_from_eight ids (is_held shape ids w refined level) (parent_of i)
@@ -232,7 +233,7 @@ pub held_at_next : (shape : Shape) (ids : List BlockId) (w : Wishes) (refined : 
     → (is_held shape ids w refined (suc level) i || is_reached shape 1 (stays_at ids (is_held shape ids w refined (suc level)) (suc level)) ids i)
     ≡ is_held shape ids w refined level i
 held_at_next shape ids w refined level i are =
-    same_truth (is_held shape ids w refined (suc level) i || is_reached shape 1 now ids i) (is_held shape ids w refined level i)
+    same_tests (is_held shape ids w refined (suc level) i || is_reached shape 1 now ids i) (is_held shape ids w refined level i)
     (λ e. there (or_cases (is_held shape ids w refined (suc level) i) (is_reached shape 1 now ids i) e))
     (λ e. back (or_cases barred (is_reached shape 1 (stays level) ids i) e))
   where
@@ -431,7 +432,7 @@ found_free leaves marks held k octant leaf parent found is are below at parent_i
     let octant_own : octant ≡ octant_of (id_at ids k) = octant_is ∙ ap octant_of own in
     let below' : k < length ids = count_of-ids leaves k below in
     let some : 0 < level_of (id_at ids k) = subst (λ i. 0 < level_of i) own (above_none (level_of leaf.0) deep) in
-    same_truth found (is_free ids held (id_at ids k))
+    same_tests found (is_free ids held (id_at ids k))
     (λ yes. free_from_places ids marks held (id_at ids k) (k - octant) are some (subst (λ p. StandFree ids marks p (k - octant)) parent_own (means.0 yes)))
     (λ free. means.1 (subst (λ p. StandFree ids marks p (k - octant)) (sym parent_own) (subst (λ n. StandFree ids marks (parent_of (id_at ids k)) (k - n)) (sym octant_own)
     (places_from_free is.shape ids marks held k is.tiling is.named is.rising are below' free).1)))

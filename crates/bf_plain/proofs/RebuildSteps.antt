@@ -8,6 +8,7 @@ use Rattle.std.proofs.lemmas.List.{append-nil}
 use Rattle.std.proofs.lemmas.List.Folds.{flat_map-map}
 use Rattle.std.proofs.lemmas.List.FromFn.{map-range_with_len_more}
 use Rattle.std.proofs.lemmas.List.Elements.{All-contains, Contains-get_or}
+use Rattle.bf_lemmas.proofs.Lists.{same_pairs}
 use Rattle.bf_id.specs.Id.{BlockId, child_of, parent_of, octant_of}
 use Rattle.bf_cells.specs.Grid.{Grid, filled_with}
 use Rattle.bf_cells.specs.Octant.{octant_copy_of}
@@ -66,10 +67,6 @@ targeted_by c leaves (leaf ∷ some) = ap (λ l. (leaf, target_in c leaves leaf.
 
 pub zip-targets : (c : Case) (leaves : List Leaf) (targets : List Target) → targets ≡ map (target_in c leaves) (ids_of leaves) → zip leaves targets ≡ targeted c leaves
 zip-targets c leaves targets are = ap (zip leaves) are ∙ targeted_by c leaves leaves
-
-same_pairs : {A B : Type 0} (pairs : List (A × B)) → map (λ p. (p.0, p.1)) pairs ≡ pairs
-same_pairs [] = refl
-same_pairs (p ∷ pairs) = ap (λ l. p ∷ l) (same_pairs pairs)
 
 -- what is known of one more leaf: it can be placed
 can_place : (c : Case) (leaves : List Leaf) (n : ℕ) (new : List Leaf) → IsValid c → IsMap c.roots c.side leaves → n < length leaves → IsRebuilt c leaves n new

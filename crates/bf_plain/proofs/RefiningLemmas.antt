@@ -2,6 +2,7 @@
 use Rattle.std.proofs.Common.{◌≡◌, ℕ, zero, suc, Bool, true, ◌&&◌, ◌||◌, ◌==◌, ◌+◌, List, [], ◌∷◌, map, filter, ◌⊎◌, inl, inr, Contains, refl, sym, ap, ◌∙◌, arith}
 use Rattle.std.specs.List.{list_any}
 use Rattle.std.proofs.lemmas.Bool.{or_left, or_right, or_cases, and_parts, and_from}
+use Rattle.bf_lemmas.proofs.Tests.{same_tests}
 use Rattle.bf_id.specs.declared.shape.Shape.{Shape}
 use Rattle.bf_id.specs.Id.{BlockId, level_of, touches}
 use Rattle.bf_id.proofs.Tilings.{any_id_decides, Contains-head, Contains-tail}
@@ -9,7 +10,6 @@ use Rattle.bf_case.specs.Wishes.{Wishes}
 use Rattle.bf_case.specs.Refinement.{is_among, refined_within}
 use Rattle.bf_case.proofs.TestLemmas.{passes_from_any, any_from_passes, Contains-filter, Contains-filter_cases}
 use Rattle.bf_plain.specs.Marks.{reaches, is_reached}
-use Rattle.bf_plain.proofs.MarkLemmas.{same_truth}
 
 -- functions that agree on the elements of a list
 pub map_alike_on : {X Y : Type 0} (f g : X → Y) (xs : List X) → ((x : X) → Contains xs x → f x ≡ g x) → map f xs ≡ map g xs
@@ -22,7 +22,7 @@ map_alike_on f g (x ∷ xs) same =
 -- a filter has the elements that pass
 pub among_filter : (test : BlockId → Bool) (ids : List BlockId) (i : BlockId) → Contains ids i → is_among (filter test ids) i ≡ test i
 among_filter test ids i has =
-    same_truth (is_among (filter test ids) i) (test i)
+    same_tests (is_among (filter test ids) i) (test i)
     (λ among. (Contains-filter_cases test ids i ((any_id_decides (filter test ids) i).0 among)).1)
     (λ passed. (any_id_decides (filter test ids) i).1 (Contains-filter test ids i has passed))
 
@@ -46,7 +46,7 @@ RefinedWithin-none shape ids finer w begun =
 round_test : (shape : Shape) (ids before : List BlockId) (i : BlockId) → ((j : BlockId) → Contains before j → Contains ids j)
     → (is_among before i || is_reached shape 1 (is_among before) ids i) ≡ (is_among before i || list_any (λ j. touches shape j i && level_of j == level_of i + 1) before)
 round_test shape ids before i within =
-    same_truth (is_among before i || is_reached shape 1 (is_among before) ids i) (is_among before i || list_any (λ j. reaches shape 1 j i) before)
+    same_tests (is_among before i || is_reached shape 1 (is_among before) ids i) (is_among before i || list_any (λ j. reaches shape 1 j i) before)
     (λ either. there (or_cases (is_among before i) (is_reached shape 1 (is_among before) ids i) either))
     (λ either. back (or_cases (is_among before i) (list_any (λ j. reaches shape 1 j i) before) either))
   where
