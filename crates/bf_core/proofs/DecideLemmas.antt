@@ -111,6 +111,7 @@ module _ (state : State) (event : Event) (place : Place) (filled : Bool) (reache
   member_here rank member =
       gone_before rank ∙ not-true (is_gone (stage state rank)) (passes (λ r. not (is_gone (stage state r))) (range_with_len 0 state.ranks) rank
       (ap (λ members. is_member members rank) (sym (members_remain state reached none)) ∙ member))
+
   -- who is not gone is a member
   here_member : (rank : ℕ) → is_gone (stage (happened state event filled) rank) ≡ false → is_member state.epoch.members rank ≡ true
   here_member rank here =

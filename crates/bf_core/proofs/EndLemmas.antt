@@ -102,6 +102,7 @@ restored_alone state ripe fair whole none nobody_goes =
   where
     unawaited : Nobody is_awaited state
     unawaited = nobody_any is_awaited state refl (not-true _ (and_parts (not (is_some state.outcome)) (not (list_any (λ s. is_awaited s.stage) state.standings)) ripe).1)
+
     dead : (rank : ℕ) → lives (stage state rank) ≡ false
     dead rank = by_life (lives (stage state rank)) refl
       where
@@ -169,6 +170,7 @@ has_end losses state reached finished home is_home stored = by_outcome state.out
   where
     nobody_goes : Nobody goes_on state
     nobody_goes = nobody_any goes_on state refl (not-true _ finished)
+
     by_outcome : (o : Option Outcome) → state.outcome ≡ o → is_some o ≡ true
     by_outcome (Some outcome) _ = refl
     by_outcome None none =

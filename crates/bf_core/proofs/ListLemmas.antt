@@ -55,6 +55,7 @@ pub all_at : {X : Type 0} (test : X → Bool) (xs : List X) (i : ℕ) (d : X) �
 all_at test [] i d default all = default
 all_at test (x ∷ xs) zero d default all = (and_parts (test x) (list_all test xs) all).0
 all_at test (x ∷ xs) (suc i) d default all = all_at test xs i d default (and_parts (test x) (list_all test xs) all).1
+
 -- who passes a test is among those of a range that do
 pub in_filtered : (p : ℕ → Bool) (k n y : ℕ) → k ≤ y → y < k + n → p y ≡ true → is_member (filter p (range_with_len k n)) y ≡ true
 in_filtered p k zero y from below passes = absurd (omega arith)

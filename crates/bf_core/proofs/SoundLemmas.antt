@@ -385,6 +385,7 @@ after_sound state (move ∷ moves) sound legal =
     after_sound (next state move.event move.filled) moves
     (next_sound state move.event move.place move.filled sound (and_parts (is_legal state move.event move.place) _ legal).0)
     (and_parts (is_legal state move.event move.place) _ legal).1
+
 pub reached_sound : (state : State) → IsReached state → IsSound state
 reached_sound state reached = subst IsSound (sym reached.reached)
     (after_sound _ reached.moves (opening_sound reached.ranks reached.filled reached.deaths reached.shift reached.steps reached.interval reached.some_rank) reached.legal)

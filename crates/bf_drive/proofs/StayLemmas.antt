@@ -27,6 +27,7 @@ module _ {S L M T R : Type 0} (m : Meanings S L M T R) (setup : S) where
   first_legal_from run [] event legal = refl
   first_legal_from run (first ∷ rest) event legal = and_from (is_legal_in m setup run first) _ (and_parts (is_legal_in m setup run first) _ legal).0
       (first_legal_from (next_run m setup run first) rest event (and_parts (is_legal_in m setup run first) _ legal).1)
+
   -- the last event of a journal is legal after those before
   pub last_legal : (journal : List Event) (event : Event) → is_journal m setup (journal ++ event ∷ []) ≡ true → is_legal_in m setup (run_after m setup journal) event ≡ true
   unfolding is_journal run_after

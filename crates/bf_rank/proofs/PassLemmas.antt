@@ -110,7 +110,6 @@ module _ {S L M T R : Type 0} (m : Meanings S L M T R) (good : S → Epoch → �
   pub end_finish : IsFinishing m good setup epoch round local
   end_finish = let P : Epoch → Type 0 = λ e. IsFinishing m good setup e round local in subst P (sym ends.same) ends.point
 
-
 module _ {S L M T R : Type 0} (m : Meanings S L M T R) (good : S → Epoch → ℕ → List L → Type 0) (setup : S) (goods : KeepsGood m good setup) (peers_kept : KeepsPeers m good setup)
     (seen : Sight L) (epoch : Epoch) (rank round sent received : ℕ) (peers : List ℕ) (peer : ℕ) (msg : M) (local : L)
     (takes : TakesInRound m good setup seen epoch rank round sent received peers peer msg local) where

@@ -74,6 +74,7 @@ apart_without (z ∷ zs) x apart = by_head (z == x) (apart_without zs x apart.1)
 pub none_listed : (xs : List ℕ) → ((y : ℕ) → is_member xs y ≡ false) → xs ≡ []
 none_listed [] none = refl
 none_listed (z ∷ zs) none = absurd (let e : true ≡ false = sym (or_left (z == z) (is_member zs z) (eq-eqb z z refl)) ∙ none z in cc)
+
 -- what each number gives, in another order
 
 to_front : {X : Type 0} (a b c : List X) → IsPermutation (a ++ (b ++ c)) (b ++ (a ++ c))
@@ -122,6 +123,7 @@ same_on : {X : Type 0} (f g : ℕ → List X) (xs : List ℕ) → ((y : ℕ) →
 same_on f g [] same = refl
 same_on f g (x ∷ xs) same =
     rw (same x (or_left (x == x) (is_member xs x) (eq-eqb x x refl)), same_on f g xs (λ y later. same y (or_right (x == y) (is_member xs y) later))) refl
+
 pub gifts_of_seats : {L T : Type 0} (g : ℕ × L → T) (h : ℕ → Option L → List T) → ((rank : ℕ) (local : L) → h rank (Some local) ≡ g (rank, local) ∷ [])
     → (members : List ℕ) (locals : List L) → Apart members → length locals ≡ length members
     → flat_map (λ rank. h rank (local_of members locals rank)) members ≡ map g (zip members locals)

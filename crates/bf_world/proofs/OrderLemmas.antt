@@ -53,6 +53,7 @@ module _ {S L M T R : Type 0} (m : Meanings S L M T R) (good : S → Epoch → �
       here : is_gone (stage run.core peer) ≡ false
       here = not-true (is_gone (stage run.core peer)) (passes (λ r. not (is_gone (stage run.core r))) (range_with_len 0 run.core.ranks) peer
           (ap (λ members. is_member members peer) (sym (lawful.sound.members none)) ∙ member))
+
       not_past : place run peer ≡ Past → ⊥
       not_past past = subst (λ p. IsBehind p (place run rank)) past is_behind
 

@@ -126,6 +126,7 @@ ended_peaceful state outcome kept peaceful = record {
   homes = peaceful.homes;
   unlost = λ time home buddy ends. kept time home buddy (same_Some _ _ ends);
 }
+
 decided_peaceful : (state : State) (made : Decision) → (made ≡ Restore → ⊥) → ((home buddy : ℕ) → made ≡ Lose home buddy → ⊥) → IsPeaceful state → IsPeaceful (decided state made)
 unfolding decided dissolved
 decided_peaceful state (Lose home buddy) stays keeps peaceful = absurd (keeps home buddy refl)
@@ -146,6 +147,7 @@ nothing_lost losses state peaceful listed =
     (λ home is_home stored.
     let member : is_member state.epoch.members home ≡ true = ap (λ xs. is_member xs home) (sym peaceful.homes) ∙ is_home in
     or_left _ _ (member_filter_from (λ rank. lives (stage state rank)) state.epoch.members home member (peaceful.alive home (listed home member))))
+
 -- what an event of a peaceful run leaves
 module _ (losses : Losses) (state : State) (event : Event) (place : Place) (filled : Bool) (sound : IsSound state) (fair : IsFair state)
     (legal : is_legal state event place ≡ true) (peaceful : IsPeaceful state) where

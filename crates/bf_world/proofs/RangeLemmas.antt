@@ -55,6 +55,7 @@ in_at : (xs : List ℕ) (i : ℕ) → i < length xs → is_member xs (get_or xs 
 in_at [] i within = absurd (omega (arith, within))
 in_at (x ∷ xs) zero within = or_left (x == x) (is_member xs x) (eq-eqb x x refl)
 in_at (x ∷ xs) (suc i) within = or_right (x == get_or xs i 0) (is_member xs (get_or xs i 0)) (in_at xs i (omega (arith, within)))
+
 climbs_over : (xs : List ℕ) (v : ℕ) → IsStrictlyIncreasing xs → ((k : ℕ) → k < length xs → get_or xs k 0 ≢ v)
     → (k : ℕ) → k < length xs → v < get_or xs k 0 → k + 1 ≤ get_or xs k 0
 climbs_over xs v rising misses zero within above = omega (arith, above)
