@@ -3,7 +3,7 @@ use Rattle.std.proofs.Common.{◌≡◌, ℕ, ◌+◌, ◌<◌, Some, List, [], 
 use Rattle.std.proofs.Math.Seq.{take-append_seam}
 use Rattle.std.proofs.lemmas.List.{length-map, length-append, get_or-map, map-append}
 use Rattle.std.proofs.lemmas.Simd.{map-map}
-use Rattle.std.proofs.lemmas.List.Elements.{All-append, All-get_or, All-head, All-map, All-tail, All-take, All-weaker, at_from_Contains}
+use Rattle.std.proofs.lemmas.List.Elements.{All-append, All-get_or, All-map, All-tail, All-take, All-weaker, at_from_Contains}
 use Rattle.bf_lemmas.proofs.Lists.{map_each}
 use Rattle.bf_id.specs.Id.{root_id}
 use Rattle.bf_id.specs.Shape.{root_count}

@@ -1,39 +1,31 @@
 -- The forest keeps the laws of round programs.
-use Rattle.std.proofs.Common.{◌≡◌, ℕ, zero, suc, ◌+◌, ◌-◌, ◌*◌, ◌^◌, ◌<◌, ◌≤◌, Bool, true, false, cond, min, List, [], ◌∷◌, map, arith, refl, sym, ap, ◌∙◌}
-use Rattle.std.specs.Prelude.{◌==◌, ◌&&◌, nat_lt, filter, Some, None, All}
-use Rattle.std.specs.List.{count_by, range_with_len}
-use Rattle.std.proofs.lemmas.Bool.{and_parts}
-use Rattle.std.proofs.lemmas.Bool.Decides.{nat_tests}
-use Rattle.std.proofs.lemmas.List.{append-nil}
+use Rattle.std.proofs.Common.{◌≡◌, ℕ, ◌+◌, ◌-◌, ◌^◌, ◌<◌, ◌≤◌, Bool, true, false, cond, List, [], arith, refl, ap, ◌∙◌}
+use Rattle.std.specs.Prelude.{◌==◌, Some, None}
+use Rattle.std.specs.List.{range_with_len}
 use Rattle.std.proofs.lemmas.List.Elements.{All-nil, All-cons, All-weaker, filter_agree}
 use Rattle.bf_lemmas.proofs.Lists.{map_alike}
 use Rattle.bf_buddy.specs.Buddy.{predecessor_of}
 use Rattle.bf_program.specs.declared.epoch.Epoch.{Epoch}
 use Rattle.bf_program.specs.Epochs.{target_of}
 use Rattle.bf_program.specs.Laws.{Laws, KeepsLimits}
-use Rattle.bf_id.specs.declared.shape.Shape.{Shape}
-use Rattle.bf_id.specs.Cube.{Voxel, holds}
-use Rattle.bf_id.specs.Id.{BlockId}
-use Rattle.bf_id.specs.Shape.{InDomain, root_edge}
 use Rattle.bf_case.specs.declared.case.Case.{Case}
 use Rattle.bf_case.specs.Case.{IsScheduled, IsDeath, IsValid}
 use Rattle.bf_block.specs.declared.setup.Setup.{Setup}
 use Rattle.bf_block.specs.Kinds.{block_kind}
-use Rattle.bf_block.specs.Runs.{CanRun}
 use Rattle.bf_block.specs.Setup.{case_of, every_setup_runs}
 use Rattle.bf_block.specs.Block.{BlockValue}
 use Rattle.bf_parts.specs.Leaves.{part_of, is_filled, side_at}
 use Rattle.bf_parts.specs.Sides.{bare}
-use Rattle.bf_stages.specs.Stages.{head_of, IsStaged, HasSides, HasSpans, HasPieces}
+use Rattle.bf_stages.specs.Stages.{head_of, IsStaged, HasSides, HasSpans}
 use Rattle.bf_stages.proofs.StageLemmas.{laws_staged}
 use Rattle.bf_forest.specs.declared.local.ForestLocal.{ForestLocal}
 use Rattle.bf_forest.specs.declared.message.ForestMessage.{ForestMessage}
 use Rattle.bf_forest.specs.declared.message.ForestMessage.TheVariants.{Step as StepMessage, Snapshot as SnapshotMessage}
 use Rattle.bf_forest.specs.declared.stage.Stage.{Stage}
 use Rattle.bf_forest.specs.declared.stage.Stage.TheVariants.{Step, Snapshot, Over}
-use Rattle.bf_forest.specs.BlockLaws.{are_leaves, one_holds, first_part, first_owned, first_filled}
+use Rattle.bf_forest.specs.BlockLaws.{are_leaves, first_part, first_owned, first_filled}
 use Rattle.bf_forest.specs.Goods.{IsGood}
-use Rattle.bf_forest.specs.Meanings.{forest, pieces, box_in, in_domain, with_heard, heard_of, ended, restored, first_blocks, opened}
+use Rattle.bf_forest.specs.Meanings.{forest, pieces, box_in, with_heard, heard_of, ended, restored, first_blocks, opened}
 use Rattle.bf_forest.specs.ModelBlocks.{blocks_at, first_home}
 use Rattle.bf_forest.specs.RoundLaws.{has_stages, is_short}
 use Rattle.bf_stages.specs.Plans.{span, rounds_of, stages_of, stage_of}

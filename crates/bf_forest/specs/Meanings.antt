@@ -1,5 +1,5 @@
 -- What the calls of the forest's rank program mean.
-use Rattle.std.specs.Prelude.{ℕ, ◌*◌, ◌%◌, ◌^◌, ◌==◌, nat_lt, Bool, ◌&&◌, List, [], ◌++◌, length, sum, map, filter, if◌then◌else◌, Option, Some, None}
+use Rattle.std.specs.Prelude.{ℕ, ◌*◌, ◌%◌, ◌^◌, ◌==◌, nat_lt, Bool, ◌&&◌, List, [], ◌++◌, length, sum, map, filter, if◌then◌else◌, Some, None}
 use Rattle.std.specs.List.{range_with_len, sum_by}
 use Rattle.bf_buddy.specs.Buddy.{predecessor_of}
 use Rattle.bf_buddy.specs.Members.{without}

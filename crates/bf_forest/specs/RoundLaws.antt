@@ -1,5 +1,5 @@
 -- The stages of an epoch lead to each other: steps to the next blocks of the model, and the last to the new snapshot.
-use Rattle.std.proofs.Common.{◌≡◌, ℕ, zero, suc, ◌+◌, Bool, true, false, List, [], ◌∷◌, ◌++◌, flat_map, map, arith, refl, sym, ap, ◌∙◌, subst}
+use Rattle.std.proofs.Common.{◌≡◌, ℕ, ◌+◌, Bool, false, List, [], ◌∷◌, ◌++◌, flat_map, map, refl, sym, ap, ◌∙◌, subst}
 use Rattle.std.specs.Prelude.{◌==◌, not, Some, None, Option}
 use Rattle.std.proofs.Math.Nat.{add-zero}
 use Rattle.bf_buddy.specs.Members.{without}

@@ -1,5 +1,5 @@
 -- Which round is which, and the time at its beginning.
-use Rattle.std.proofs.Common.{◌≡◌, ℕ, ◌+◌, ◌<◌, ◌≤◌, Bool, true, false, cond, min, arith, refl, sym}
+use Rattle.std.proofs.Common.{◌≡◌, ℕ, ◌+◌, ◌<◌, ◌≤◌, Bool, true, false, cond, arith, refl, sym}
 use Rattle.bf_program.specs.declared.epoch.Epoch.{Epoch}
 use Rattle.bf_program.specs.Epochs.{target_of, target_in}
 use Rattle.bf_stages.specs.Plans.{IsShort, span, rounds_of, stage_of}
