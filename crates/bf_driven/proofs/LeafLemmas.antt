@@ -15,7 +15,6 @@ use Rattle.bf_id.specs.Shape.{root_count}
 use Rattle.bf_id.specs.Id.{BlockId, root_id, id_eq}
 use Rattle.bf_id.proofs.Boxes.{id_eq_is_equal}
 use Rattle.bf_id.proofs.Tilings.{Contains-head, Contains-tail}
-use Rattle.bf_cells.specs.Grid.{Grid}
 use Rattle.bf_case.specs.declared.case.Case.{Case}
 use Rattle.bf_case.specs.Around.{grid_at, nothing}
 use Rattle.bf_case.specs.Map.{Leaf, cells_at}

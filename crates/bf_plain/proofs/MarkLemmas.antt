@@ -5,6 +5,7 @@ use Rattle.std.proofs.lemmas.List.Folds.{list_any_more}
 use Rattle.std.proofs.lemmas.Bool.{cases_eq, cases_Bool, or_left, or_right, or_cases, and_parts, and_from, both_ways, not-true, not_from_false}
 use Rattle.std.proofs.lemmas.List.{get_or-set_same, get_or-set_other, get_or-map, length-map, length-set, get_or_default, ext_get_or}
 use Rattle.std.proofs.Math.Seq.{take-length}
+use Rattle.bf_lemmas.proofs.Lists.{map_alike}
 use Rattle.bf_lemmas.proofs.Tests.{same_tests}
 use Rattle.bf_id.specs.declared.shape.Shape.{Shape}
 use Rattle.bf_id.specs.Cube.{Cube, Voxel, Holds}
@@ -214,9 +215,6 @@ Around-next shape leaves chart finer k step found leaf block place also before m
     subst (λ b. Around shape ids chart finer k before (step + 1) (set marks found (get_or marks found false || b))) (sym test) next
 
 -- ---- from many leaves
-
-pub map_alike : {X Y : Type 0} (f g : X → Y) (xs : List X) → ((x : X) → f x ≡ g x) → map f xs ≡ map g xs
-map_alike f g xs same = λ k. map (λ x. same x k) xs
 
 pub or_false : (a : Bool) → a ≡ (a || false)
 or_false true = refl

@@ -6,6 +6,7 @@ use Rattle.std.proofs.lemmas.Bool.{and_parts, and_from, or_cases, or_left, or_ri
 use Rattle.std.proofs.lemmas.List.Elements.{All-contains, Contains-get_or, at_from_Contains}
 use Rattle.std.proofs.lemmas.List.{get_or-map, get_or_default, map-append, take_more, length-take, length-map, length-append}
 use Rattle.std.proofs.Math.Seq.{take-length, take-append_seam}
+use Rattle.bf_lemmas.proofs.Lists.{map_alike}
 use Rattle.bf_lemmas.proofs.Tests.{same_tests}
 use Rattle.bf_id.specs.declared.shape.Shape.{Shape}
 use Rattle.bf_id.specs.Id.{BlockId, IsId, level_of, parent_of, octant_of, child_of, children_of, root_id, Touch, touches}
@@ -27,7 +28,7 @@ use Rattle.bf_plain.specs.Marks.{is_reached, reaches, IsSurveyed}
 use Rattle.bf_plain.specs.Octets.{leaf_merges, is_barred, is_held, is_free, stays_at, AreInOrder, StandsFree}
 use Rattle.bf_plain.proofs.AtlasLemmas.{id_of_leaf}
 use Rattle.bf_plain.proofs.RefiningLemmas.{refined_within-in}
-use Rattle.bf_plain.proofs.MarkLemmas.{or_false, map_alike, count_of-ids}
+use Rattle.bf_plain.proofs.MarkLemmas.{or_false, count_of-ids}
 
 -- ---- what holds a leaf
 

@@ -16,7 +16,7 @@ use Rattle.bf_text.specs.declared.outline.Outline.{Outline}
 use Rattle.bf_text.specs.Forms.{is_within, from_to, up_to, word_range}
 use Rattle.bf_text.specs.Drafts.{blank_outline, outline_with}
 use Rattle.bf_text.proofs.TextLemmas.{is_letter}
-use Rattle.bf_text.proofs.CanonLemmas.{IsLine, IsSound, Reaches, step}
+use Rattle.bf_text.proofs.CanonLemmas.{IsSound, Reaches, step}
 
 within : (r : Range) (n : ℕ) → r.least ≤ n → n ≤ r.greatest → is_within r n ≡ true
 within r n low high = and_from (leb r.least n) (leb n r.greatest) (le-leb r.least n low) (le-leb n r.greatest high)
@@ -45,9 +45,6 @@ whole_outline c deaths ended = record {
   };
   deaths = deaths;
 }
-
-one_line : (w : List ℕ) (n : ℕ) → 0 < length w → (l : list_all is_letter w ≡ true) → n < 2 ^ 32 → IsLine w (n ∷ [])
-one_line w n some letters fits = record { some = some; letters = letters; small = one_small n fits }
 
 header_sound : IsSound blank_outline form.Forest (1 ∷ [])
 header_sound = record {

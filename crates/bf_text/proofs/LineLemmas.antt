@@ -97,9 +97,6 @@ comment_none xs e = sym (take_all (position_or_len is_hash xs) xs (found_none is
 
 -- ---- words
 
-pub blank_first : (b : ℕ) (xs : List ℕ) → is_blank b ≡ true → words_of (b ∷ xs) ≡ words_of xs
-blank_first b xs e = ap (filter is_some_word) (slice_split-cons_yes is_blank b xs e)
-
 some_word : (b : ℕ) (xs : List ℕ) → is_some_word (b ∷ xs) ≡ true
 some_word b xs = let ne : length (b ∷ xs) ≡ 0 → ⊥ = λ e. omega (arith, e) in ap not (ne_eqb (length (b ∷ xs)) 0 ne)
 
