@@ -34,6 +34,11 @@ fn opened_three(alloc: Global) -> Result<Three, Memory> {
     })
 }
 
+fn opened_first(alloc: Global) -> Result<BeadLocal, Memory> {
+    let setup = setup();
+    opened(alloc, &setup, 0)
+}
+
 // The first of five ranks with a bead each.
 fn first_of_five(alloc: Global) -> Result<BeadLocal, Memory> {
     let five = BeadSetup::new(5, 5, 2, 1, 0, &[]);
@@ -97,7 +102,7 @@ fn expect_owners(rt: &impl Abort, beads: &Items<Bead>, first: u32, second: u32) 
 #[test]
 #[tactic(none)]
 fn the_first_rank_begins_with_two_beads_and_a_copy(rt: HostRuntime) -> Result<(), Fail> {
-    let local = opened(rt.alloc(), &setup(), 0)?;
+    let local = opened_first(rt.alloc())?;
     expect_two(&rt, &local.beads, 0, 3);
     expect_values(&rt, &local.beads, 1, 4);
     expect_owners(&rt, &local.beads, 1, 2);
@@ -194,7 +199,7 @@ fn expect_measure(rt: &impl Abort, msg: &BeadMessage, blocks: u32, sum: u64) {
 #[test]
 #[tactic(none)]
 fn a_message_weighs_its_beads(rt: HostRuntime) -> Result<(), Fail> {
-    let mut local = opened(rt.alloc(), &setup(), 0)?;
+    let mut local = opened_first(rt.alloc())?;
     let msg = send(rt.alloc(), Stage::Snapshot, epoch(), 0, &mut local, 1)?;
     expect_measure(&rt, &msg, 2, 5);
     let none = send(rt.alloc(), Stage::Snapshot, epoch(), 0, &mut local, 2)?;
