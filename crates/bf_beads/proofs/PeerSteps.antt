@@ -1,7 +1,7 @@
 -- The loop that leaves out those who are no peers.
 use Rattle.std.proofs.Common.{◌≡◌, ℕ, ◌+◌, ◌<◌, ◌≤◌, true, false, List, All}
 use Rattle.std.specs.Prelude.{◌==◌, not, filter}
-use Rattle.bf_parts.proofs.PassedLemmas.{passed_below, passed_start, passed_stays, passed_goes, passed_end}
+use Rattle.bf_lemmas.proofs.Passes.{passed_below, passed_start, passed_stays, passed_goes, passed_end}
 use Rattle.bf_beads.specs.declared.local.BeadLocal.{BeadLocal}
 use Rattle.bf_beads.specs.declared.stage.Stage.{Stage}
 use Rattle.bf_beads.specs.Peers.{is_peer}

@@ -1,3 +1,4 @@
+-- A row of beads on ranks: the row, its rounds, and the laws of the program.
 pub mod Row
 pub mod Stages
 pub mod Locals

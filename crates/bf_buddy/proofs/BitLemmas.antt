@@ -1,25 +1,25 @@
 -- Ranks as the bits of a number.
-use Rattle.std.proofs.Common.{◌≡◌, ◌≢◌, ℕ, suc, zero, ◌+◌, ◌-◌, ◌*◌, ◌/◌, ◌%◌, ◌^◌, ◌<◌, ◌≤◌, Bool, true, false, cond, not, ◌&&◌, List, [], ◌∷◌, arith, refl, ap, sym, ◌∙◌, inl, inr, lit<}
-use Rattle.std.specs.Prelude.{◌==◌, Option, filter, bit_and}
+use Rattle.std.proofs.Common.{◌≡◌, ◌≢◌, ℕ, suc, zero, ◌+◌, ◌-◌, ◌*◌, ◌/◌, ◌%◌, ◌^◌, ◌<◌, ◌≤◌, Bool, true, false, cond, not, ◌&&◌, ◌||◌, List, [], ◌∷◌, arith, refl, ap, sym, ◌∙◌, inl, inr, lit<}
+use Rattle.std.specs.Prelude.{◌==◌, Option, filter, bit_and, bit_or}
 use Rattle.std.specs.List.{range_with_len, position_from}
 use Rattle.std.specs.Int.{bit_at}
 use Rattle.std.proofs.lemmas.Bool.Decides.{nat_tests}
 use Rattle.std.proofs.lemmas.Nat.Bits.{shr_and_one, bit_at_ones, bit_at_ones_above}
-use Rattle.std.proofs.lemmas.Nat.Bits.{bit_at_clear_same, bit_at_clear_other}
+use Rattle.std.proofs.lemmas.Nat.Bits.{bit_at_clear_same, bit_at_clear_other, bit_at_set_same, bit_at_set_other}
 use Rattle.std.proofs.lemmas.Iterator.Adapters.{position_from-zero}
 use Rattle.std.proofs.lemmas.Bool.{cases_lt, cases_eq, eqb-true, eq-eqb}
 use Rattle.std.proofs.lemmas.Map.Views.{any-filter_same}
 use Rattle.std.proofs.lemmas.List.Kept.{IsStrictlyIncreasing-filter}
 use Rattle.std.proofs.lemmas.List.Elements.{All-filter}
 use Rattle.std.proofs.Math.Nat.{mod-eq_of_lt, pow-le-pow_right}
-use Rattle.std.proofs.lemmas.Nat.{pow_pos}
+use Rattle.std.proofs.lemmas.Nat.{pow_pos, or_of_32}
 use Rattle.std.proofs.Math.Pow.{pow-lt}
 use Rattle.std.specs.Prelude.{All, slice_get, Some, None}
 use Rattle.std.specs.List.Sorted.{IsStrictlyIncreasing}
 use Rattle.std.specs.Int.{w32}
-use Rattle.bf_buddy.specs.Members.{has_bit, ranks_in, is_member, without, place_in}
-use Rattle.bf_buddy.proofs.MemberLemmas.{all_members, range_has, range_within, range_rises}
-use Rattle.std.proofs.Math.Bool.{and-true, and-false}
+use Rattle.bf_buddy.specs.Members.{has_bit, ranks_in, is_member, with_member, without, place_in}
+use Rattle.bf_buddy.proofs.MemberLemmas.{all_members, filter_members, range_has, range_within, range_rises}
+use Rattle.std.proofs.Math.Bool.{and-true, and-false, or-true, or-false}
 use Rattle.std.proofs.lemmas.Bool.{false_from_ne_true}
 
 -- the code's test of a bit
@@ -215,3 +215,26 @@ unfolding ranks_in
 without-beyond bits r above = filter_both (has_bit bits) (has_bit bits) (λ member. not (member == r)) 32 0 (λ i within. beyond_bit bits r i above within)
 
 pub ruleset without_steps = (ranks_in-clear, without-beyond)
+
+-- one bit more
+set_bit : (bits r i : ℕ) → r < 32 → has_bit (bit_or bits (1 * 2 ^ r % 2 ^ 32)) i ≡ (has_bit bits i || i == r)
+unfolding has_bit
+set_bit bits r i below =
+    elim (cases_eq i r) [
+      | inl same ↦ let test : (i == r) ≡ true = eq-eqb i r same in
+          let one : bit_at (bit_or bits (1 * 2 ^ r % 2 ^ 32)) i ≡ 1 = ap (bit_at (bit_or bits (1 * 2 ^ r % 2 ^ 32))) same ∙ bit_at_set_same w32 bits r below in
+          rw (one, test) (sym (or-true (bit_at bits i == 1)))
+      | inr other ↦ let test : (i == r) ≡ false = grind (arith, nat_tests) in
+          rw (bit_at_set_other w32 bits r below i other, test) (sym (or-false (bit_at bits i == 1)))
+    ]
+
+pub ranks_in-set : (bits r : ℕ) → r < 32 → ranks_in (bit_or bits (1 * 2 ^ r % 2 ^ 32)) ≡ with_member (ranks_in bits) r
+unfolding ranks_in with_member
+ranks_in-set bits r below =
+    filter_members (has_bit (bit_or bits (1 * 2 ^ r % 2 ^ 32))) (λ member. is_member (ranks_in bits) member || member == r) (range_with_len 0 32)
+    (λ member is_in. set_bit bits r member below ∙ ap (λ b. b || member == r) (sym (is_member-ranks_in bits member (range_within 0 32 member is_in))))
+
+pub set_fits : (bits r : ℕ) → bits < 2 ^ 32 → r < 32 → bit_or bits (1 * 2 ^ r % 2 ^ 32) < 2 ^ 32
+set_fits bits r fits below = or_of_32 bits (1 * 2 ^ r % 2 ^ 32) fits (omega arith)
+
+pub ruleset with_steps = (ranks_in-set, set_fits)

@@ -1,3 +1,4 @@
+-- Members, buddies and lost homes.
 pub mod Members
 pub mod Buddy
 pub mod Losses

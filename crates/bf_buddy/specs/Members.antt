@@ -1,5 +1,5 @@
 -- The members of a run: ranks in rising order.
-use Rattle.std.specs.Prelude.{ℕ, ◌+◌, ◌^◌, Bool, not, List, [], ◌∷◌, Option, filter, position, ◌==◌}
+use Rattle.std.specs.Prelude.{ℕ, ◌+◌, ◌^◌, Bool, not, ◌||◌, List, [], ◌∷◌, Option, filter, position, ◌==◌}
 use Rattle.std.specs.List.{range_with_len, list_any}
 use Rattle.std.specs.Int.{bit_at}
 
@@ -14,6 +14,10 @@ place_in members rank = position (λ member. member == rank) members
 -- the members but one
 abbrev pub without : List ℕ → ℕ → List ℕ
 without members rank = filter (λ member. not (member == rank)) members
+
+-- the members and one rank more, in rising order
+unfoldable pub with_member : List ℕ → ℕ → List ℕ
+with_member members rank = filter (λ member. is_member members member || member == rank) (range_with_len 0 32)
 
 -- whether the bit of a rank is 1
 unfoldable pub has_bit : ℕ → ℕ → Bool

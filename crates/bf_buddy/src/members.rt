@@ -1,7 +1,7 @@
 ghost use Rattle.std.specs.Prelude.{◌≡◌, ◌≢◌, ◌<◌, ◌≤◌, IsTrue, All, length, slice_get, slice_index};
 ghost use Rattle.std.specs.List.{range_with_len};
 ghost use Rattle.std.specs.List.Sorted.{IsStrictlyIncreasing};
-ghost use Rattle.bf_buddy.specs.Members.{is_member, place_in, without, has_bit, ranks_in};
+ghost use Rattle.bf_buddy.specs.Members.{is_member, place_in, with_member, without, has_bit, ranks_in};
 ghost use Rattle.bf_buddy.specs.Buddy.{place_of, buddy_place, buddy_of, predecessor_place, predecessor_of};
 
 use std::marker::Model;
@@ -165,6 +165,17 @@ impl Members {
             }
         } else {
             self
+        }
+    }
+
+    /// The members and one rank more. A member changes nothing.
+    #[tactic(auto, using(crate::proofs::BitLemmas::with_steps))]
+    pub fn with(self, rank: u32) -> Self
+        requires { rank < 32 }
+        ensures { result ≡ with_member self rank }
+    {
+        Members {
+            bits: self.bits | (1 << rank),
         }
     }
 

@@ -40,6 +40,8 @@ fn ranks_go_to_thirty_one(rt: HostRuntime) -> Result<(), Fail> {
     assert_eq!(rt; members.place(31), Some(31));
     assert_eq!(rt; members.without(30).place(31), Some(30));
     assert_eq!(rt; members.without(30).at(31), None);
+    assert_eq!(rt; members.without(30).with(30).at(30), Some(30));
+    assert_eq!(rt; Members::all(0).with(31).with(7).with(31).count(), 2);
     Ok(())
 }
 

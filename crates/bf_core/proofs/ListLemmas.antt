@@ -10,15 +10,6 @@ pub filter_same : {X : Type 0} (p q : X → Bool) (xs : List X) → ((x : X) →
 filter_same p q [] same = refl
 filter_same p q (x ∷ xs) same = rw (same x, filter_same p q xs same) refl
 
-pub filter_twice : {X : Type 0} (p q : X → Bool) (xs : List X) → filter p (filter q xs) ≡ filter (λ x. q x && p x) xs
-filter_twice p q [] = refl
-filter_twice p q (x ∷ xs) = at_first (filter_twice p q xs) (q x) refl
-  where
-    at_first : filter p (filter q xs) ≡ filter (λ x. q x && p x) xs → (b : Bool) → q x ≡ b
-        → filter p (cond b (x ∷ filter q xs) (filter q xs)) ≡ cond (b && p x) (x ∷ filter (λ x. q x && p x) xs) (filter (λ x. q x && p x) xs)
-    at_first rest true passes = rw rest refl
-    at_first rest false fails = rest
-
 pub filter_range : (p : ℕ → Bool) (k n : ℕ) → ((r : ℕ) → k ≤ r → r < k + n → p r ≡ true) → filter p (range_with_len k n) ≡ range_with_len k n
 filter_range p k zero passes = refl
 filter_range p k (suc n) passes =

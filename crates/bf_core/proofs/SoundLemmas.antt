@@ -27,7 +27,8 @@ use Rattle.bf_core.specs.declared.decision.Decision.{Decision}
 use Rattle.bf_core.specs.declared.decision.Decision.TheVariants.{Lose, WantMemory, Commit, Restore}
 use Rattle.bf_core.specs.Next.{with_stage, decision, decision_where, decided, settled, dissolved, ended, committed, restored, is_everyone_done, next}
 use Rattle.bf_core.specs.Journals.{Move, after, are_legal}
-use Rattle.bf_core.proofs.ListLemmas.{filter_same, filter_twice, filter_range, all_at}
+use Rattle.bf_lemmas.proofs.Lists.{filter_twice}
+use Rattle.bf_core.proofs.ListLemmas.{filter_same, filter_range, all_at}
 use Rattle.bf_core.proofs.StageLemmas.{nobody, Someone, Nobody, someone, nobody_any, is_rank, stage_same, stage_other, stage_dissolved}
 
 -- whether a rank is in its rounds or has arrived in an epoch that is not decided

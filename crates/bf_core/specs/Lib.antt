@@ -1,3 +1,4 @@
+-- The state machine of a run: its states, what is legal, what comes next, and its laws.
 pub mod Stages
 pub mod Places
 pub mod Rolls

@@ -1,2 +1,3 @@
+-- Runs by turns, and why each ends.
 pub mod Drives
 pub mod Lighter

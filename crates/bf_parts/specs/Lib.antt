@@ -1,3 +1,4 @@
+-- Items in parts by owners, with copies in snapshots, and their laws.
 pub mod Sides
 pub mod Leaves
 pub mod Views

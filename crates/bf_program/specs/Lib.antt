@@ -1,3 +1,4 @@
+-- Programs of ranks in rounds: epochs, meanings, the lockstep, and the laws that a program keeps.
 pub mod Epochs
 pub mod Meanings
 pub mod Lockstep

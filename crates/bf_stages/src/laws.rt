@@ -62,7 +62,7 @@ pub fn a_move_keeps_all_items<N, I>()
         → Weighs (λ (hand : Hand N I). count_by test hand.items) (λ (items : List I). count_by test items) (move_play first talks going settle) }
 {}
 
-// The laws below are for leaves that are refined and merge. No program has such leaves yet.
+// The laws below are for leaves that are refined and merge.
 
 /// Where leaves become others at their owners, the part of the new leaves is what is made of each item of the old part.
 pub fn what_is_made_of_a_part_is_the_new_part<K, I>()

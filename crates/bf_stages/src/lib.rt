@@ -6,7 +6,7 @@
 //! records, of any local, of the ends of epochs, of pieces, and that each stage leads to the next, all laws of round
 //! programs follow. A stage that is played on a part of the local, in which a rank is alone, in which the snapshot is
 //! made, or in which items move, leads to the next by a lemma of its kind. Three laws more are for stages in which leaves
-//! become others, as where they are refined and merge. No program has such a stage yet.
+//! become others, as where they are refined and merge; they are for programs whose leaves regrid.
 #![tactic(auto)]
 
 pub mod laws;

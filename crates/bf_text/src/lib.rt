@@ -2,7 +2,8 @@
 //!
 //! [`read_case`] gives the case that the bytes spell, or the first line that is at fault with the
 //! cause that comes first there; both are what one definition says of the bytes. [`write_case`]
-//! writes the canonical text, which is read back as the same case.
+//! writes the canonical text, which is read back as the same case; the program has no command that writes
+//! one, so it is for tools that make cases.
 #![tactic(auto)]
 
 mod code;

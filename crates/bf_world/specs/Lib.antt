@@ -1,3 +1,4 @@
+-- The world: legal journals, queues, and the lockstep's messages and parcels.
 pub mod Journals
 pub mod Queues
 pub mod Course

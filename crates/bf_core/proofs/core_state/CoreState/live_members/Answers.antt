@@ -1,9 +1,10 @@
-use Rattle.std.proofs.Common.{ap, sym, ◌∙◌, arith}
-use Rattle.bf_core.proofs.StateLemmas.{kept_start, kept_live}
+use Rattle.std.proofs.Common.{ap, ◌∙◌, arith}
+use Rattle.bf_lemmas.proofs.Passes.{passed_start}
+use Rattle.bf_core.proofs.StateLemmas.{kept_live}
 use Rattle.bf_core.proofs.core_state.CoreState.live_members.Goals as goal
 
 pub loop-rank-init : goal.loop-rank-init
-loop-rank-init c = ap (λ s. s.epoch.members) c.self.view_is ∙ sym (kept_start _ _)
+loop-rank-init c = ap (λ s. s.epoch.members) c.self.view_is ∙ passed_start _ _
 
 pub returns : goal.returns
 returns c = kept_live c.args.self.now _ _ _ (omega arith) c.loop-rank.invariant (ap (λ s. s.epoch.members) c.self.view_is) c.count.ensures.below

@@ -1,23 +1,15 @@
--- A loop through ranks that leaves out those members that fail a test.
+-- A loop through numbers that takes those out of a list that fail a test.
 use Rattle.std.proofs.Common.{◌≡◌, ℕ, ◌+◌, ◌<◌, ◌≤◌, Bool, true, false, cond, List, [], ◌∷◌, arith, refl, ap, sym, ◌∙◌}
 use Rattle.std.proofs.Math.Bool.{or-true, and-true, and-false}
 use Rattle.std.specs.Prelude.{◌==◌, ◌||◌, ◌&&◌, not, filter, nat_le, All}
 use Rattle.std.proofs.lemmas.Bool.{eqb-true}
 use Rattle.std.proofs.lemmas.Bool.Decides.{nat_tests}
 use Rattle.std.proofs.lemmas.List.Elements.{All-head, All-tail, filter_agree}
+use Rattle.bf_lemmas.proofs.Lists.{filter_twice}
 
--- members that pass a test, or have not been looked at, as only the ranks below one have
+-- those of some numbers that pass a test or aren't below one: only those below it have been looked at
 unfoldable pub passed_below : (test : ℕ → Bool) → List ℕ → (rank : ℕ) → List ℕ
 passed_below test members rank = filter (λ member. nat_le rank member || test member) members
-
-filter_twice : (p q : ℕ → Bool) (xs : List ℕ) → filter p (filter q xs) ≡ filter (λ x. q x && p x) xs
-filter_twice p q [] = refl
-filter_twice p q (x ∷ xs) = at (q x) (filter_twice p q xs)
-  where
-    at : (b : Bool) → filter p (filter q xs) ≡ filter (λ x. q x && p x) xs
-        → filter p (cond b (x ∷ filter q xs) (filter q xs)) ≡ cond (b && p x) (x ∷ filter (λ x. q x && p x) xs) (filter (λ x. q x && p x) xs)
-    at true rest = ap (λ later. cond (p x) (x ∷ later) later) rest
-    at false rest = rest
 
 filter_all : (p : ℕ → Bool) (xs : List ℕ) → ((x : ℕ) → p x ≡ true) → filter p xs ≡ xs
 filter_all p [] passes = refl
