@@ -68,7 +68,7 @@ refined_from_target shape ids w i low e =
     let refined = refined_ids shape ids w in
     (refined_ids_are shape ids w i low).0 (chosen_Refine (is_among refined i) (nat_lt 0 (level_of i) && merges shape ids w refined (parent_of i)) e)
 
-target_from_refined : (shape : Shape) (ids : List BlockId) (w : Wishes) (i : BlockId) → All (λ j. level_of j ≤ 4) ids → IsRefined shape ids w i → target_of shape ids w i ≡ Refine
+pub target_from_refined : (shape : Shape) (ids : List BlockId) (w : Wishes) (i : BlockId) → All (λ j. level_of j ≤ 4) ids → IsRefined shape ids w i → target_of shape ids w i ≡ Refine
 target_from_refined shape ids w i low is =
     let refined = refined_ids shape ids w in
     cond-true (is_among refined i) Refine (cond (nat_lt 0 (level_of i) && merges shape ids w refined (parent_of i)) Merge Keep) ((refined_ids_are shape ids w i low).1 is)

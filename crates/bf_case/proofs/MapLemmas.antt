@@ -18,12 +18,13 @@ use Rattle.bf_id.specs.Shape.{IsShape, root_count}
 use Rattle.bf_id.specs.Id.{BlockId, IsId, InShape, level_of, root_id, touches, parent_of, root_ids}
 use Rattle.bf_id.specs.Tiling.{Tiles}
 use Rattle.bf_id.specs.Walk.{IsBefore}
-use Rattle.bf_id.proofs.Tilings.{roots_Tiles}
+use Rattle.bf_id.proofs.Tilings.{roots_Tiles, roots_IsBalanced}
 use Rattle.bf_cells.specs.Grid.{Grid, table, spread_of}
 use Rattle.bf_cells.proofs.GridLemmas.{IsGrid-table, side-table, table_is}
 use Rattle.bf_cells.proofs.KernelLemmas.{relaxed_small}
 use Rattle.bf_case.specs.declared.case.Case.{Case}
 use Rattle.bf_case.specs.declared.case.Fill.{Fill}
+use Rattle.bf_case.specs.Balanced.{AreBalancedLeaves}
 use Rattle.bf_case.specs.Case.{IsValid, IsFill}
 use Rattle.bf_case.specs.Map.{Leaf, ids_of, cells_at, HasCells, IsMap}
 use Rattle.bf_case.specs.Sample.{scale_of, moved, cell_corner, sample}
@@ -186,21 +187,34 @@ few_roots shape is =
 roots_rise : (k l : ℕ) → k < l → IsBefore (root_id k) (root_id l)
 roots_rise k l h = ap (λ o. ordering_then o Equal) (sym (nat_cmp_is k l Less h))
 
+-- the roots are balanced leaves
+pub balanced_roots : (shape : Shape) (levels : ℕ) → IsShape shape → AreBalancedLeaves shape levels (root_ids shape)
+balanced_roots shape levels is =
+    let n = root_count shape in
+    record {
+      tiling = roots_Tiles shape is;
+      named = All-from_fn IsId root_id n (λ k h. record {
+        root_fits = omega (arith, few_roots shape is);
+        shallow = omega arith;
+        octal = All-nil (λ octant. octant < 8);
+      });
+      in_shape = All-from_fn (InShape shape) root_id n (λ k h. h);
+      rising = AllPairs-from_fn IsBefore root_id n roots_rise;
+      shallow = All-from_fn (λ i. level_of i ≤ levels) root_id n (λ k h. omega arith);
+      balanced = roots_IsBalanced shape;
+    }
+
 pub IsMap-initial : (c : Case) → IsValid c → IsMap c.roots c.side (initial c)
 unfolding initial
 IsMap-initial c is =
-    let n = root_count c.roots in
     let same = sym (ids_of-initial c) in
+    let roots = balanced_roots c.roots c.levels is.sized.shape in
     record {
-      tiling = subst (Tiles c.roots) same (roots_Tiles c.roots is.sized.shape);
-      ids = subst (All IsId) same (All-from_fn IsId root_id n (λ k h. record {
-        root_fits = omega (arith, few_roots c.roots is.sized.shape);
-        shallow = omega arith;
-        octal = All-nil (λ octant. octant < 8);
-      }));
-      in_shape = subst (All (InShape c.roots)) same (All-from_fn (InShape c.roots) root_id n (λ k h. h));
-      rising = subst (AllPairs IsBefore) same (AllPairs-from_fn IsBefore root_id n roots_rise);
-      cells = All-from_fn (HasCells c.side) (filled_root c) n (λ k _.
+      tiling = subst (Tiles c.roots) same roots.tiling;
+      ids = subst (All IsId) same roots.named;
+      in_shape = subst (All (InShape c.roots)) same roots.in_shape;
+      rising = subst (AllPairs IsBefore) same roots.rising;
+      cells = All-from_fn (HasCells c.side) (filled_root c) (root_count c.roots) (λ k _.
           let first : Voxel = first_cell c.roots c.side k in
           HasCells-table c.side (root_id k) (λ x y z. filled_value c.fills (moved first x y z)) is.sized.even is.sized.wide is.sized.narrow
           (λ x y z. filled_small c.fills (moved first x y z) 0

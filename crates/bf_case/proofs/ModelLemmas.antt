@@ -6,10 +6,8 @@ use Rattle.std.proofs.lemmas.Bool.{and_parts, cond_both, ltb-true, false≢true}
 use Rattle.std.proofs.lemmas.Simd.{map-map}
 use Rattle.std.proofs.lemmas.List.Elements.{All-map}
 use Rattle.std.proofs.lemmas.List.Folds.{map_fixed}
-use Rattle.bf_id.specs.Shape.{root_count}
-use Rattle.bf_id.specs.Id.{BlockId, level_of, root_id}
+use Rattle.bf_id.specs.Id.{BlockId, level_of}
 use Rattle.bf_id.specs.Tiling.{IsBalanced}
-use Rattle.bf_id.proofs.Tilings.{roots_IsBalanced}
 use Rattle.bf_cells.specs.Grid.{Grid, spread_of}
 use Rattle.bf_case.specs.declared.case.Case.{Case}
 use Rattle.bf_case.specs.Balanced.{AreBalancedLeaves}
@@ -20,9 +18,8 @@ use Rattle.bf_case.specs.Stencil.{stencil}
 use Rattle.bf_case.specs.Wishes.{wishes_of}
 use Rattle.bf_case.specs.Regrid.{regridded_ids, sampled_leaf, regrid}
 use Rattle.bf_case.specs.Model.{initial, regrids, regridded, model, model_at}
-use Rattle.bf_case.proofs.ListLemmas.{All-from_fn}
 use Rattle.bf_case.proofs.SampleLemmas.{sample_small}
-use Rattle.bf_case.proofs.MapLemmas.{ids_of-stencil, IsMap-stencil, ids_of-initial, IsMap-initial, HasCells-table}
+use Rattle.bf_case.proofs.MapLemmas.{ids_of-stencil, IsMap-stencil, ids_of-initial, balanced_roots, IsMap-initial, HasCells-table}
 use Rattle.bf_case.proofs.ChoiceLemmas.{regridded_are_balanced}
 
 -- ---- maps and leaves
@@ -96,10 +93,11 @@ balanced-regrid c leaves sized is =
 pub balanced-initial : (c : Case) → IsValid c → IsBalancedMap c (initial c)
 balanced-initial c is =
     let same = sym (ids_of-initial c) in
+    let roots = balanced_roots c.roots c.levels is.sized.shape in
     record {
       map = IsMap-initial c is;
-      shallow = subst (All (λ i. level_of i ≤ c.levels)) same (All-from_fn (λ i. level_of i ≤ c.levels) root_id (root_count c.roots) (λ k below. omega arith));
-      balanced = subst (IsBalanced c.roots) same (roots_IsBalanced c.roots);
+      shallow = subst (All (λ i. level_of i ≤ c.levels)) same roots.shallow;
+      balanced = subst (IsBalanced c.roots) same roots.balanced;
     }
 
 pub balanced-regridded : (c : Case) (time : ℕ) (leaves : List Leaf) → IsValid c → IsBalancedMap c leaves → IsBalancedMap c (regridded c time leaves)

@@ -17,7 +17,7 @@ use Rattle.bf_case.proofs.LookupLemmas.{leaf_from_cells_at}
 use Rattle.bf_case.proofs.MapLemmas.{sampled_leaf_same}
 use Rattle.bf_case.proofs.OctetLemmas.{parent_of-child, octant_of-child}
 use Rattle.bf_case.proofs.ChoiceLemmas.{refined_has_room, refined_from_target}
-use Rattle.bf_case.proofs.ModelLemmas.{finer_has_room}
+use Rattle.bf_case.proofs.ModelLemmas.{finer_has_room, ids_of-regrid}
 use Rattle.bf_case.proofs.RegridCells.{sampled_leaf-child, sampled_leaf-parent}
 
 -- a refined leaf lies above the finest level of all
@@ -34,31 +34,42 @@ unfolding regridded_ids
 heir_among c leaves i j has heir = Contains-flat_map (heirs_of c.roots (ids_of leaves) (wishes_of c leaves)) (ids_of leaves) i j has heir
 
 -- a new leaf's cells are the samples there
-pub cells_at-regrid : (c : Case) (leaves : List Leaf) (i j : BlockId) → Contains (ids_of leaves) i → Contains (heirs_by (target_in c leaves i) i) j
+cells_at-new : (c : Case) (leaves : List Leaf) (j : BlockId) → Contains (regridded_ids c.roots (ids_of leaves) (wishes_of c leaves)) j
     → cells_at (regrid c leaves) j ≡ Some (sampled_leaf c.roots c.side leaves j).1
 unfolding regrid
-cells_at-regrid c leaves i j has heir =
+cells_at-new c leaves j among =
     let made : BlockId → Leaf = sampled_leaf c.roots c.side leaves in
     let ids = regridded_ids c.roots (ids_of leaves) (wishes_of c leaves) in
-    let among = heir_among c leaves i j has heir in
     ap (option_map (λ (leaf : Leaf). leaf.1))
     (find_only (λ (leaf : Leaf). id_eq leaf.0 j) (map made ids) (made j) (Contains-map made ids j among) ((id_eq_is_equal j j).1 refl)
     (λ (leaf : Leaf) found passed. let from = Contains-map_cases made ids leaf found in
     let id : from.0 ≡ j = sym (ap (λ (l : Leaf). l.0) from.2) ∙ (id_eq_is_equal leaf.0 j).0 passed in
     from.2 ∙ ap made id))
 
+-- so are those of a leaf's heirs
+pub cells_at-regrid : (c : Case) (leaves : List Leaf) (i j : BlockId) → Contains (ids_of leaves) i → Contains (heirs_by (target_in c leaves i) i) j
+    → cells_at (regrid c leaves) j ≡ Some (sampled_leaf c.roots c.side leaves j).1
+cells_at-regrid c leaves i j has heir = cells_at-new c leaves j (heir_among c leaves i j has heir)
+
 -- the ids of leaves
 pub id_of_found : (leaves : List Leaf) (i : BlockId) (g : Grid) → cells_at leaves i ≡ Some g → Contains (ids_of leaves) i
 id_of_found leaves i g found = Contains-map (λ (leaf : Leaf). leaf.0) leaves (i, g) (leaf_from_cells_at leaves i g found)
 
--- a kept leaf keeps its cells
+-- a leaf that is among the new leaves too keeps its cells
+pub cells_at-stays : (c : Case) (leaves : List Leaf) (i : BlockId) (g : Grid) → IsMap c.roots c.side leaves → cells_at leaves i ≡ Some g
+    → Contains (ids_of (regrid c leaves)) i → cells_at (regrid c leaves) i ≡ Some g
+cells_at-stays c leaves i g is found stays =
+    let has = leaf_from_cells_at leaves i g found in
+    cells_at-new c leaves i (subst (λ ids. Contains ids i) (ids_of-regrid c leaves) stays)
+    ∙ ap (λ (leaf : Leaf). Some leaf.1) (sampled_leaf_same c.roots c.side leaves (i, g) is has (All-contains (HasCells c.side) leaves (i, g) is.cells has))
+
+-- a kept leaf is among them
 pub cells_at-kept : (c : Case) (leaves : List Leaf) (i : BlockId) (g : Grid) → IsMap c.roots c.side leaves → cells_at leaves i ≡ Some g
     → target_in c leaves i ≡ Keep → cells_at (regrid c leaves) i ≡ Some g
 cells_at-kept c leaves i g is found target =
-    let has = leaf_from_cells_at leaves i g found in
     let heir : Contains (heirs_by (target_in c leaves i) i) i = subst (λ t. Contains (heirs_by t i) i) (sym target) (Contains-one i) in
-    cells_at-regrid c leaves i i (id_of_found leaves i g found) heir
-    ∙ ap (λ (leaf : Leaf). Some leaf.1) (sampled_leaf_same c.roots c.side leaves (i, g) is has (All-contains (HasCells c.side) leaves (i, g) is.cells has))
+    cells_at-stays c leaves i g is found
+    (subst (λ ids. Contains ids i) (sym (ids_of-regrid c leaves)) (heir_among c leaves i i (id_of_found leaves i g found) heir))
 
 -- a refined leaf gives its octants
 pub cells_at-refined : (c : Case) (leaves : List Leaf) (i : BlockId) (g : Grid) (octant : ℕ) → c.levels ≤ 4 → IsMap c.roots c.side leaves → cells_at leaves i ≡ Some g

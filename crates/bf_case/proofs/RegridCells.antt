@@ -1,10 +1,11 @@
 -- What a regrid does to cells: a kept leaf keeps them, a refined leaf gives its octants, and a merging octet its means.
-use Rattle.std.proofs.Common.{◌≡◌, ℕ, ◌+◌, ◌-◌, ◌*◌, ◌/◌, ◌%◌, ◌^◌, ◌<◌, ◌≤◌, true, false, List, Some, Contains, sym, ap, subst, ◌∙◌, arith, pow-add, pow_pos}
+use Rattle.std.proofs.Common.{◌≡◌, ℕ, ◌+◌, ◌-◌, ◌*◌, ◌/◌, ◌%◌, ◌^◌, ◌<◌, ◌≤◌, true, false, eqb, ◌&&◌, List, Some, Contains, sym, ap, subst, ◌∙◌, arith, pow-add, pow_pos}
 use Rattle.std.specs.Prelude.{nat_le}
 use Rattle.std.specs.Option.{option_map_or}
 use Rattle.std.proofs.Math.Nat.{div-div-eq-div-mul, mul-div_cancel, div-add-mod}
 use Rattle.std.proofs.lemmas.Nat.{shl-shr, div_below, mod_below}
 use Rattle.std.proofs.lemmas.Bool.{cond-true, cond-false, le-leb, lt-leb}
+use Rattle.std.proofs.lemmas.Bool.Decides.{nat_tests}
 use Rattle.std.proofs.lemmas.List.Elements.{All-contains}
 use Rattle.bf_case.proofs.FinestLemmas.{mean_same}
 use Rattle.bf_id.specs.declared.shape.Shape.{Shape}
@@ -208,6 +209,22 @@ octant_is half x y z some hx hy hz =
     let b : y / half < 2 = div_below y half 2 some hy in
     let c : z / half < 2 = div_below z half 2 some hz in
     record { octal = omega arith; along_x = omega arith; along_y = omega arith; along_z = omega arith }
+
+-- the number of an octant, told by its three steps
+octant_test : (a b c p q r : ℕ) → a < 2 → b < 2 → c < 2 → p < 2 → q < 2 → r < 2
+    → (eqb a p && eqb b q && eqb c r) ≡ eqb (a + 2 * b + 4 * c) (p + 2 * q + 4 * r)
+octant_test a b c p q r ha hb hc hp hq hr = grind (arith, nat_tests)
+
+-- a cell lies in the octant of its number
+pub in_octant_is : (half o x y z : ℕ) → IsOctant half x y z → o < 8
+    → (eqb (x / half) (octant_x o) && eqb (y / half) (octant_y o) && eqb (z / half) (octant_z o)) ≡ eqb (octant_at half x y z) o
+in_octant_is half o x y z is octal =
+    let a : x / half < 2 = omega (arith, is.along_x) in
+    let b : y / half < 2 = omega (arith, is.along_y) in
+    let c : z / half < 2 = omega (arith, is.along_z, is.octal) in
+    let number : octant_x o + 2 * octant_y o + 4 * octant_z o ≡ o = omega arith in
+    octant_test (x / half) (y / half) (z / half) (octant_x o) (octant_y o) (octant_z o) a b c (omega arith) (omega arith) (omega arith)
+    ∙ ap (eqb (octant_at half x y z)) number
 
 -- a cell of a parent begins where a cell of its child begins
 corner_in_child : (shape : Shape) (side half : ℕ) (i : BlockId) (x y z : ℕ) → side ≡ half + half → level_of i < 4 → IsOctant half x y z

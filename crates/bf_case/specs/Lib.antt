@@ -1,3 +1,4 @@
+-- Cases and the model: maps, samples, the stencil, regrids, and how each is laid out in cells.
 pub mod Case
 pub mod CaseText
 pub mod Map

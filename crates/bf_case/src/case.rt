@@ -51,7 +51,8 @@ impl Case {
     ghost use Rattle.bf_id.specs.Shape.{root_count};
     ghost use Rattle.bf_case.specs.Case.{IsSized, IsScheduled, IsValid, first_rank_of};
 
-    /// Whether every field is in its range and the fields fit each other.
+    /// Whether every field is in its range and the fields fit each other: for whoever makes a case by hand, since the reader of
+    /// texts tells the first fault by its line and needs no answer of the whole.
     pub fn valid(&self) -> bool
         ensures { IsTrue result ↔ IsValid self.now }
     {

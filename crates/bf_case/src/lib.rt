@@ -10,6 +10,7 @@
 
 mod case;
 mod filling;
+mod halves;
 pub mod laws;
 mod leaf;
 mod map;
@@ -21,6 +22,7 @@ mod validity;
 pub use bf_items::Items;
 pub use case::{CELL_LIMIT, Case, Fill};
 pub use filling::{fill_root, filled_root};
+pub use halves::halves_along;
 pub use leaf::AsLeaf;
 pub use map::Map;
 pub use neighbours::{RootCells, surround};

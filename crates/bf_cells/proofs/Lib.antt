@@ -7,6 +7,7 @@ pub mod RowLemmas
 pub mod PlaneLemmas
 pub mod SpreadLemmas
 pub mod OctantLemmas
+pub mod MeanLemmas
 pub mod FillLemmas
 pub mod CellLemmas
 pub mod LevelLemmas

@@ -1,15 +1,18 @@
 -- Octants: parts of half the side.
 use Rattle.std.proofs.Common.{◌≡◌, ℕ, ◌+◌, ◌-◌, ◌*◌, ◌/◌, ◌%◌, ◌^◌, ◌<◌, ◌≤◌, arith, ap, sym, ◌∙◌, refl, List, length, get_or, cond, eqb, Bool, true, false, inl, inr, ◌&&◌, take, drop, ◌++◌}
 use Rattle.std.proofs.lemmas.List.{get_or-take, get_or-drop, get_or_append_left, get_or-append_right, length-take-le}
+use Rattle.std.specs.List.{between}
+use Rattle.std.proofs.lemmas.List.Edits.{get_or-between}
 use borrow.Rule.Slice.PartMut.{put_mid}
 use Rattle.std.proofs.lemmas.Bool.{cases_lt, cases_eq, false≢true}
 use Rattle.std.proofs.lemmas.Bool.Decides.{nat_tests}
 use Rattle.std.proofs.Math.Nat.{div-eq_of_lt, mod-eq_of_lt, div-eq_of_lt-le, div-add-mod}
 use Rattle.bf_cells.specs.Grid.{Grid, IsGrid, grid_with, cell_at, table}
 use Rattle.bf_cells.specs.Rows.{piece_at}
-use Rattle.bf_cells.specs.Octant.{octant_x, octant_y, octant_z, octant_copy_of, mean_at, in_octant, with_octant_mean, part_cell, is_within, in_part, part_mean, part_mean_cell}
+use Rattle.bf_cells.specs.Octant.{octant_x, octant_y, octant_z, octant_copy_of, mean_at, in_octant, with_octant_mean, part_cell, is_within, in_part, part_mean, part_value}
 use Rattle.bf_cells.proofs.GridLemmas.{table_is, cell_small, cond_small, IsGrid-table}
-use Rattle.bf_cells.proofs.PlaceLemmas.{row_place_below, row_place-mod, row_place-div, row_of_place}
+use Rattle.bf_cells.proofs.PlaceLemmas.{row_place_below, row_place-mod, row_place-div, row_of_place, row_fits, cube_row_fits}
+use Rattle.bf_cells.proofs.PlaneLemmas.{pieces_more, pieces_rest}
 
 -- a grid whose rows, counted by y and then z, hold the cells of a function
 pub table_by_rows : (g : Grid) (f : ℕ → ℕ → ℕ → ℕ) → length g.values ≡ g.side * g.side * g.side
@@ -35,6 +38,9 @@ part_row_below s y0 z0 row even fy fz below =
 -- the tests of a number against a part
 pub is_within-true : (low count n : ℕ) → low ≤ n → n < low + count → is_within low count n ≡ true
 is_within-true low count n above below = grind (arith, nat_tests)
+
+pub within_from_test : (low count n : ℕ) → is_within low count n ≡ true → (low ≤ n) × (n < low + count)
+within_from_test low count n holds = grind (arith, nat_tests)
 
 pub is_within-false_below : (low count n : ℕ) → n < low → is_within low count n ≡ false
 is_within-false_below low count n below = grind (arith, nat_tests)
@@ -83,19 +89,19 @@ within_part a n k m m' old same =
     ]
 
 -- a row of a cube where it crosses a part: the part's cells are written, the others stay
-pub crossed : (side x0 y0 z0 y z n : ℕ) (values into part : List ℕ) → n ≡ side / 2 → x0 + side / 2 ≤ side
+pub crossed : (side x0 y0 z0 y z n : ℕ) (f : ℕ → ℕ → ℕ → ℕ) (into part : List ℕ) → n ≡ side / 2 → x0 + side / 2 ≤ side
     → length into ≡ side → length part ≡ side / 2
     → (is_within y0 (side / 2) y && is_within z0 (side / 2) z) ≡ true
-    → ((k : ℕ) → k < side / 2 → get_or part k 0 ≡ part_mean side values k (y - y0) (z - z0))
+    → ((k : ℕ) → k < side / 2 → get_or part k 0 ≡ f k (y - y0) (z - z0))
     → (k : ℕ) → k < side
-    → get_or (put_mid x0 n into part) k 0 ≡ part_mean_cell side values x0 y0 z0 (get_or into k 0) k y z
-unfolding part_mean_cell in_part
-crossed side x0 y0 z0 y z n values into part size fits full len across means k hk =
+    → get_or (put_mid x0 n into part) k 0 ≡ part_value side f x0 y0 z0 (get_or into k 0) k y z
+unfolding part_value in_part
+crossed side x0 y0 z0 y z n f into part size fits full len across values k hk =
     let half = side / 2 in
     let both = and-true (is_within y0 half y) (is_within z0 half z) across in
     let wy = both.0 in
     let wz = both.1 in
-    rw (size, wy, wz) (part_written into part x0 half k (omega arith) len ∙ within_part x0 half k _ _ _ (means (k - x0)) ∙ dropped (is_within x0 half k) _ _)
+    rw (size, wy, wz) (part_written into part x0 half k (omega arith) len ∙ within_part x0 half k _ _ _ (values (k - x0)) ∙ dropped (is_within x0 half k) _ _)
   where
     dropped : (b : Bool) (m n : ℕ) → cond b m n ≡ cond ((b && true) && true) m n
     dropped true m n = refl
@@ -106,12 +112,45 @@ and_none true b c e = e
 and_none false b c e = refl
 
 -- a row of a cube that does not cross a part stays
-pub uncrossed : (side x0 y0 z0 y z k old : ℕ) (values : List ℕ)
-    → (is_within y0 (side / 2) y && is_within z0 (side / 2) z) ≡ false → old ≡ part_mean_cell side values x0 y0 z0 old k y z
-unfolding part_mean_cell in_part
-uncrossed side x0 y0 z0 y z k old values apart =
+pub uncrossed : (side x0 y0 z0 y z k old : ℕ) (f : ℕ → ℕ → ℕ → ℕ)
+    → (is_within y0 (side / 2) y && is_within z0 (side / 2) z) ≡ false → old ≡ part_value side f x0 y0 z0 old k y z
+unfolding part_value in_part
+uncrossed side x0 y0 z0 y z k old f apart =
     let half = side / 2 in
     rw (and_none (is_within x0 half k) (is_within y0 half y) (is_within z0 half z) apart) refl
+
+-- which row of a part a row of a cube crosses
+pub crossed_row : (half y0 z0 y z count : ℕ) → count ≡ half * half * half → (is_within y0 half y && is_within z0 half z) ≡ true
+    → half * (y - y0 + half * (z - z0)) + half ≤ count
+crossed_row half y0 z0 y z count full across =
+    let both = and-true (is_within y0 half y) (is_within z0 half z) across in
+    cube_row_fits half (y - y0) (z - z0) count full (inside y0 y both.0) (inside z0 z both.1)
+  where
+    inside : (low k : ℕ) → is_within low half k ≡ true → k - low < half
+    inside low k test = grind (arith, nat_tests)
+
+-- the first rows of a cube are written where they cross a part, and the others are as before
+abbrev pub AreWritten : (s x0 y0 z0 : ℕ) → (ℕ → ℕ → ℕ → ℕ) → (old : List ℕ) → (rows : ℕ) → List ℕ → Type 0
+AreWritten s x0 y0 z0 f old rows into =
+    ((k b : ℕ) → k < s → b < rows → piece_at into s b k ≡ part_value s f x0 y0 z0 (piece_at old s b k) k (b % s) (b / s))
+    × ((k b : ℕ) → k < s → rows ≤ b → piece_at into s b k ≡ piece_at old s b k)
+
+-- one more row
+pub row_written : (s x0 y0 z0 row n : ℕ) (f : ℕ → ℕ → ℕ → ℕ) (old into part : List ℕ) → n ≡ s → row < s * s → length into ≡ s * s * s → length part ≡ s
+    → ((k : ℕ) → k < s → get_or part k 0 ≡ part_value s f x0 y0 z0 (get_or (between (s * row) (s * row + s) into) k 0) k (row % s) (row / s))
+    → AreWritten s x0 y0 z0 f old row into → AreWritten s x0 y0 z0 f old (row + 1) (put_mid (s * row) n into part)
+row_written s x0 y0 z0 row n f old into part size below full len written before =
+    let fits : s * row + s ≤ length into = omega (arith, row_fits s (s * s) row below) in
+    let cell = λ (k b : ℕ). λ (v : ℕ). part_value s f x0 y0 z0 v k (b % s) (b / s) in
+    let here : (k : ℕ) → k < s → get_or part k 0 ≡ cell k row (piece_at old s row k) = λ k hk.
+    let inside : s * row + k < s * row + s = omega arith in
+    let turned : s * row + k ≡ k + s * row = omega arith in
+    written k hk
+    ∙ ap (cell k row) (get_or-between into (s * row) (s * row + s) k 0 inside
+    ∙ ap (λ i. get_or into i 0) turned ∙ before.1 k row hk (omega arith)) in (
+      pieces_more (λ k b. cell k b (piece_at old s b k)) into part s row n size fits len here before.0,
+      λ k b hk hb. pieces_rest into part s row n size fits len k b hk (omega arith) ∙ before.1 k b hk (omega arith),
+    )
 
 -- a list whose rows copy an octant makes the copy of the octant
 pub octant_copy_is : (g : Grid) (octant : ℕ) (values : List ℕ) → length values ≡ g.side * g.side * g.side
@@ -159,17 +198,17 @@ chosen : (b : Bool) (m n m' n' : ℕ) → (b ≡ true → m ≡ m') → n ≡ n'
 chosen true m n m' n' e f = e refl
 chosen false m n m' n' e f = f
 
--- a list whose rows hold the means in an octant makes the grid with the means
-pub octant_mean_is : (s octant : ℕ) (from old values : List ℕ) → octant < 8 → s % 2 ≡ 0 → 2 ≤ s → length values ≡ s * s * s
+-- a list whose rows hold other values in an octant makes the table with them
+pub octant_table : (s octant : ℕ) (f : ℕ → ℕ → ℕ → ℕ) (old values : List ℕ) → octant < 8 → s % 2 ≡ 0 → 2 ≤ s → length values ≡ s * s * s
     → ((k row : ℕ) → k < s → row < s * s → piece_at values s row k
-    ≡ part_mean_cell s from (octant_x octant * (s / 2)) (octant_y octant * (s / 2)) (octant_z octant * (s / 2)) (piece_at old s row k) k (row % s) (row / s))
-    → grid_with s values ≡ with_octant_mean (grid_with s from) octant (grid_with s old)
-unfolding with_octant_mean part_mean_cell in_part part_mean
-octant_mean_is s octant from old values low even two full rows =
+    ≡ part_value s f (octant_x octant * (s / 2)) (octant_y octant * (s / 2)) (octant_z octant * (s / 2)) (piece_at old s row k) k (row % s) (row / s))
+    → grid_with s values ≡ table s (λ x y z. cond (in_octant s octant x y z) (f (x % (s / 2)) (y % (s / 2)) (z % (s / 2))) (cell_at (grid_with s old) x y z))
+unfolding part_value in_part
+octant_table s octant f old values low even two full rows =
     let half = s / 2 in
     let pos : 0 < half = omega arith in
     let twice : half + half ≡ s = omega arith in
-    let at = λ (x y z : ℕ). cond (in_octant s octant x y z) (mean_at (grid_with s from) (x % half) (y % half) (z % half)) (cell_at (grid_with s old) x y z) in
+    let at = λ (x y z : ℕ). cond (in_octant s octant x y z) (f (x % half) (y % half) (z % half)) (cell_at (grid_with s old) x y z) in
     table_by_rows (grid_with s values) at full (λ k row hk hrow.
     let y = row % s in
     let z = row / s in
@@ -177,13 +216,12 @@ octant_mean_is s octant from old values low even two full rows =
     let ax = half_axis half (octant_x octant) k pos (omega arith) (omega arith) in
     let ay = half_axis half (octant_y octant) y pos (omega (arith, place_is.0)) (omega arith) in
     let az = half_axis half (octant_z octant) z pos (omega (arith, place_is.1)) (omega arith) in
-    let mean = mean_at (grid_with s from) in
-    let means : in_octant s octant k y z ≡ true → mean (k - octant_x octant * half) (y - octant_y octant * half) (z - octant_z octant * half) ≡ mean (k % half) (y % half) (z % half) = λ e.
+    let same : in_octant s octant k y z ≡ true → f (k - octant_x octant * half) (y - octant_y octant * half) (z - octant_z octant * half) ≡ f (k % half) (y % half) (z % half) = λ e.
     let outer = and-true (eqb (k / half) (octant_x octant) && eqb (y / half) (octant_y octant)) (eqb (z / half) (octant_z octant)) e in
     let inner = and-true (eqb (k / half) (octant_x octant)) (eqb (y / half) (octant_y octant)) outer.0 in
     rw (ax.rest inner.0, ay.rest inner.1, az.rest outer.1) refl
     in
-    rows k row hk hrow ∙ rw (ax.test, ay.test, az.test) (chosen (in_octant s octant k y z) _ _ _ _ means (ap (λ r. get_or old (k + s * r) 0) (sym place_is.2))))
+    rows k row hk hrow ∙ rw (ax.test, ay.test, az.test) (chosen (in_octant s octant k y z) _ _ _ _ same (ap (λ r. get_or old (k + s * r) 0) (sym place_is.2))))
 
 -- the same, by the numbers and lists that were read
 pub octant_copy_by_lists : (g : Grid) (octant side x0 y0 z0 : ℕ) (cells values : List ℕ) → side ≡ g.side → cells ≡ g.values
@@ -199,11 +237,12 @@ pub octant_mean_by_lists : (g : Grid) (octant : ℕ) (into : Grid) (side x0 y0 z
     → x0 ≡ octant_x octant * (side / 2) → y0 ≡ octant_y octant * (side / 2) → z0 ≡ octant_z octant * (side / 2)
     → octant < 8 → side % 2 ≡ 0 → 2 ≤ side → length values ≡ side * side * side
     → ((k row : ℕ) → k < side → row < side * side → piece_at values side row k
-    ≡ part_mean_cell side from x0 y0 z0 (piece_at old side row k) k (row % side) (row / side))
+    ≡ part_value side (part_mean side from) x0 y0 z0 (piece_at old side row k) k (row % side) (row / side))
     → grid_with side values ≡ with_octant_mean g octant into
+unfolding with_octant_mean part_mean
 octant_mean_by_lists g octant into side x0 y0 z0 from old values es ei ef eo ex ey ez low even two full rows =
     let made : grid_with side values ≡ with_octant_mean (grid_with side from) octant (grid_with side old) =
-    octant_mean_is side octant from old values low even two full (rw (ex, ey, ez) at rows) in
+    octant_table side octant (part_mean side from) old values low even two full (rw (ex, ey, ez) at rows) in
     let source : grid_with side from ≡ g = ap (λ s. grid_with s from) es ∙ ap (grid_with g.side) ef in
     let target : grid_with side old ≡ into = ap (λ s. grid_with s old) (sym ei) ∙ ap (grid_with into.side) eo in
     made ∙ ap (λ h. with_octant_mean h octant (grid_with side old)) source ∙ ap (with_octant_mean g octant) target

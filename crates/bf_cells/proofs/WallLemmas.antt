@@ -7,7 +7,7 @@ use Rattle.std.proofs.lemmas.Bool.{cases_lt}
 use Rattle.bf_face.specs.declared.face.Face.{Face}
 use Rattle.bf_face.specs.declared.face.Face.TheVariants.{XLow, XHigh, YLow, YHigh, ZLow, ZHigh}
 use Rattle.bf_cells.specs.Grid.{Grid, IsGrid, grid_with}
-use Rattle.bf_cells.specs.Shell.{Walls, IsWall, IsShell, wall_of, with_wall, wall_place, blank_walls, face_cell, face_values, square}
+use Rattle.bf_cells.specs.Shell.{Walls, IsWall, IsShell, wall_at, wall_of, with_wall, wall_place, blank_walls, face_cell, face_values, square}
 use Rattle.bf_cells.proofs.PlaceLemmas.{row_place_below, row_place-mod, row_place-div, row_of_place}
 use Rattle.bf_cells.proofs.GridLemmas.{cell_small}
 
@@ -38,6 +38,17 @@ side-with_wall w YLow wall = refl
 side-with_wall w YHigh wall = refl
 side-with_wall w ZLow wall = refl
 side-with_wall w ZHigh wall = refl
+
+-- a value beside a face after its square or that of another face was replaced
+pub wall_at-with_wall_same : (w : Walls) (face : Face) (wall : List ℕ) (a b : ℕ) → wall_at (with_wall w face wall) face a b ≡ get_or wall (wall_place w.side a b) 0
+wall_at-with_wall_same w face wall a b =
+    ap (λ l. get_or l (wall_place (with_wall w face wall).side a b) 0) (wall_of-with_wall_same w face wall)
+    ∙ ap (λ s. get_or wall (wall_place s a b) 0) (side-with_wall w face wall)
+
+pub wall_at-with_wall_other : (w : Walls) (face other : Face) (wall : List ℕ) (a b : ℕ) → other ≢ face → wall_at (with_wall w face wall) other a b ≡ wall_at w other a b
+wall_at-with_wall_other w face other wall a b apart =
+    ap (λ l. get_or l (wall_place (with_wall w face wall).side a b) 0) (wall_of-with_wall_other w face other wall apart)
+    ∙ ap (λ s. get_or (wall_of w other) (wall_place s a b) 0) (side-with_wall w face wall)
 
 -- walls of one side whose squares are the same are the same
 pub same_walls : (w v : Walls) → w.side ≡ v.side → ((face : Face) → wall_of w face ≡ wall_of v face) → w ≡ v
@@ -131,6 +142,10 @@ pub get_or-face_values : (g : Grid) (face : Face) (a b : ℕ) → a < g.side →
     → get_or (face_values g face) (wall_place g.side a b) 0 ≡ face_cell g face a b
 unfolding face_values
 get_or-face_values g face a b ha hb = get_or-square g.side (face_cell g face) a b ha hb
+
+pub length-face_values : (g : Grid) (face : Face) → length (face_values g face) ≡ g.side * g.side
+unfolding face_values
+length-face_values g face = length-square g.side (face_cell g face)
 
 pub face_cell_small : (g : Grid) → IsGrid g → (face : Face) (a b : ℕ) → face_cell g face a b < 2 ^ 32
 unfolding face_cell

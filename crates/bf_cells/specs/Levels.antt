@@ -20,6 +20,23 @@ face_mean g YHigh a b = mean_at g a (g.side / 2 - 1) b
 face_mean g ZLow a b = mean_at g a b 0
 face_mean g ZHigh a b = mean_at g a b (g.side / 2 - 1)
 
+-- a quarter of a grid's face, as a square of half the side
+unfoldable pub quarter_values : Grid → Face → ℕ → ℕ → List ℕ
+quarter_values g face half_a half_b =
+    square (g.side / 2) (λ a b. face_cell g face (half_a * (g.side / 2) + a) (half_b * (g.side / 2) + b))
+
+-- the means of all cubes of eight cells next to a grid's face, as a square of half the side
+unfoldable pub mean_values : Grid → Face → List ℕ
+mean_values g face = square (g.side / 2) (face_mean g face)
+
+-- a value of a square of this side
+abbrev pub square_at : ℕ → List ℕ → ℕ → ℕ → ℕ
+square_at side values a b = slice_index values (wall_place side a b)
+
+-- a square in which each value of one of half the side stands at four places
+unfoldable pub doubled_square : ℕ → List ℕ → List ℕ
+doubled_square side values = square side (λ a b. square_at (side / 2) values (a / 2) (b / 2))
+
 -- whether a place of a square with this side lies in a quarter
 abbrev pub in_quarter : ℕ → ℕ → ℕ → ℕ → ℕ → Bool
 in_quarter side half_a half_b a b = a / (side / 2) == half_a && b / (side / 2) == half_b

@@ -1,3 +1,4 @@
+-- The cells of a block, the values round them, and the stencil.
 pub mod Grid
 pub mod Shell
 pub mod Squares
@@ -5,4 +6,5 @@ pub mod ShellFields
 pub mod Kernel
 pub mod Rows
 pub mod Octant
+pub mod Means
 pub mod Levels

@@ -63,7 +63,6 @@ mean_of_rows first second third fourth k =
     (slice_index first (2 * k) + slice_index first (2 * k + 1) + slice_index second (2 * k) + slice_index second (2 * k + 1)
     + slice_index third (2 * k) + slice_index third (2 * k + 1) + slice_index fourth (2 * k) + slice_index fourth (2 * k + 1)) / 8
 
--- a cell of a cube in whose part the means of another cube's cells stand; it was `old` before
-unfoldable pub part_mean_cell : ℕ → List ℕ → ℕ → ℕ → ℕ → ℕ → ℕ → ℕ → ℕ → ℕ
-part_mean_cell side values x0 y0 z0 old x y z =
-    if in_part side x0 y0 z0 x y z then part_mean side values (x - x0) (y - y0) (z - z0) else old
+-- a cell of a cube in whose part other values stand, which count from where the part begins; it was `old` before
+unfoldable pub part_value : ℕ → (ℕ → ℕ → ℕ → ℕ) → ℕ → ℕ → ℕ → ℕ → ℕ → ℕ → ℕ → ℕ
+part_value side f x0 y0 z0 old x y z = if in_part side x0 y0 z0 x y z then f (x - x0) (y - y0) (z - z0) else old

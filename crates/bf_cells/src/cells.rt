@@ -1,15 +1,22 @@
-ghost use Rattle.std.specs.Prelude.{◌≡◌, ◌+◌, ◌*◌, ◌%◌, ◌<◌, ◌≤◌, length, IfOk};
+ghost use Rattle.std.specs.Prelude.{◌≡◌, ◌+◌, ◌*◌, ◌/◌, ◌%◌, ◌<◌, ◌≤◌, length, IfOk};
 ghost use Rattle.bf_cells.specs.Grid.{IsGrid, grid_with, cell_at, filled_with, with_cell, with_row, spread_of};
 ghost use Rattle.bf_cells.specs.Kernel.{relaxed_grid};
+ghost use Rattle.bf_cells.specs.Levels.{mean_values, quarter_values};
+ghost use Rattle.bf_cells.specs.Means.{means_of, with_octant};
 ghost use Rattle.bf_cells.specs.Octant.{octant_copy_of, with_octant_mean};
+ghost use Rattle.bf_cells.specs.Shell.{face_values};
 
 use crate::Memory;
 use crate::cubes::relax_cube;
 use crate::extremes::{greatest, least};
+use crate::faces::copy_face;
+use crate::means::{load_part, mean_all};
 use crate::octants::{copy_part, mean_part, octant_low};
 use crate::places::{cube_place, row_start};
+use crate::quarters::{copy_quarter, mean_face};
 use crate::rows::fill_between;
 use crate::shell::Shell;
+use bf_face::Face;
 use std::alloc::Global;
 use std::marker::Model;
 
@@ -81,6 +88,36 @@ impl Cells {
         ensures valid { IsGrid self.now }
     {
         self.values.as_slice()
+    }
+
+    /// Copies the cells on a face, by their two other coordinates in the order x, y, z, the first fastest.
+    pub fn read_face(&self, face: Face, into: &mut [u32])
+        requires { length into.old ≡ self.now.side * self.now.side }
+        ensures { into.new ≡ face_values self.now face }
+    {
+        copy_face(self.values.as_slice(), self.side as usize, face, into);
+    }
+
+    /// Copies the cells on a quarter of a face, which is told by its half along each of the face's two axes, in the order
+    /// x, y, z: 0 is the low one, and 1 the high one.
+    pub fn read_quarter(&self, face: Face, half_a: u32, half_b: u32, into: &mut [u32])
+        requires half_a { half_a < 2 }
+        requires half_b { half_b < 2 }
+        requires into { length into.old ≡ self.now.side / 2 * (self.now.side / 2) }
+        ensures { into.new ≡ quarter_values self.now face half_a half_b }
+    {
+        let side = self.side as usize;
+        let a = half_a as usize;
+        let b = half_b as usize;
+        copy_quarter(self.values.as_slice(), side, face, a, b, into);
+    }
+
+    /// Takes the mean, rounded down, of each eight cells that form a cube next to a face.
+    pub fn read_means(&self, face: Face, into: &mut [u32])
+        requires { length into.old ≡ self.now.side / 2 * (self.now.side / 2) }
+        ensures { into.new ≡ mean_values self.now face }
+    {
+        mean_face(self.values.as_slice(), self.side as usize, face, into);
     }
 
     /// Gives all cells other values, x fastest, then y, then z.
@@ -166,6 +203,30 @@ impl Cells {
             z0,
             into.values.as_mut_slice(),
         );
+    }
+
+    /// The means, rounded down, of each eight cells that form a cube: x fastest, then y, then z.
+    pub fn means(&self) -> Result<Vec<u32>, Memory>
+        ensures { IfOk result (λ means. means.items ≡ (means_of self.now).values) }
+    {
+        let side = self.side as usize;
+        let half = side / 2;
+        let alloc = *self.values.allocator();
+        let mut means = vec![in alloc; 0u32; half * half * half]?;
+        mean_all(self.values.as_slice(), side, means.as_mut_slice());
+        Ok(means)
+    }
+
+    /// Gives the cells of an octant other values, x fastest, then y, then z.
+    pub fn load_octant(&mut self, octant: u32, values: &[u32])
+        requires octant { octant < 8 }
+        requires values { length values.now ≡ self.old.side / 2 * (self.old.side / 2) * (self.old.side / 2) }
+        ensures cells { self.new ≡ with_octant self.old octant values.now }
+        ensures side { self.new.side ≡ self.old.side }
+    {
+        let side = self.side as usize;
+        let (x0, y0, z0) = octant_low(side, octant as usize);
+        load_part(values, side, x0, y0, z0, self.values.as_mut_slice());
     }
 
     /// Gives one value to the cells from `x` up to `end`, which is not among them, of the row at y and z.

@@ -132,7 +132,7 @@ fn mean_column(values: &[u32], side: usize, x: usize, z: usize, into: &mut [u32]
 
 // A row of the means next to a face.
 #[tactic(auto, unfolding(crate::specs::Levels::face_mean, crate::specs::Octant::part_mean))]
-fn mean_face_row(values: &[u32], side: usize, face: Face, b: usize, into: &mut [u32])
+pub(crate) fn mean_face_row(values: &[u32], side: usize, face: Face, b: usize, into: &mut [u32])
     requires even { side % 2 ≡ 0 }
     requires high { side ≤ 16 }
     requires b_below { b < side / 2 }

@@ -1,5 +1,5 @@
 ghost use Rattle.std.specs.Prelude.{◌≡◌, ℕ, ◌+◌, ◌-◌, ◌*◌, ◌/◌, ◌%◌, ◌<◌, ◌≤◌, ◌&&◌, length, slice_index};
-ghost use Rattle.bf_cells.specs.Octant.{octant_x, octant_y, octant_z, part_cell, is_within, mean_of_rows, part_mean, part_mean_cell};
+ghost use Rattle.bf_cells.specs.Octant.{octant_x, octant_y, octant_z, part_cell, is_within, mean_of_rows, part_mean, part_value};
 ghost use Rattle.bf_cells.specs.Rows.{piece_at};
 
 use crate::pieces::piece;
@@ -150,7 +150,7 @@ pub(crate) fn has(low: usize, count: usize, at: usize) -> bool
 
 // Whether a row at y and z crosses a part.
 #[inline]
-fn crosses(half: usize, y0: usize, z0: usize, y: usize, z: usize) -> bool
+pub(crate) fn crosses(half: usize, y0: usize, z0: usize, y: usize, z: usize) -> bool
     requires y_fits { y0 + half ≤ 16 }
     requires z_fits { z0 + half ≤ 16 }
     ensures { result ≡ (is_within y0 half y && is_within z0 half z) }
@@ -178,7 +178,7 @@ fn mean_part_row(
     requires values { length values.now ≡ side * side * side }
     requires into { length into.old ≡ side }
     ensures { (k : ℕ) → k < side
-        → slice_index into.new k ≡ part_mean_cell side values.now x0 y0 z0 (slice_index into.old k) k (row % side) (row / side) }
+        → slice_index into.new k ≡ part_value side (part_mean side values.now) x0 y0 z0 (slice_index into.old k) k (row % side) (row / side) }
 {
     let half = side / 2;
     let y = row % side;
@@ -205,7 +205,7 @@ pub(crate) fn mean_part(
     requires values { length values.now ≡ side * side * side }
     requires into { length into.old ≡ side * side * side }
     ensures { (k row : ℕ) → k < side → row < side * side → piece_at into.new side row k
-        ≡ part_mean_cell side values.now x0 y0 z0 (piece_at into.old side row k) k (row % side) (row / side) }
+        ≡ part_value side (part_mean side values.now) x0 y0 z0 (piece_at into.old side row k) k (row % side) (row / side) }
 {
     for row in 0..side * side {
         let start = side * row;

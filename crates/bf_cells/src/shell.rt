@@ -1,6 +1,6 @@
-ghost use Rattle.std.specs.Prelude.{◌≡◌, ◌+◌, ◌*◌, ◌%◌, ◌<◌, ◌≤◌, length, IfOk};
+ghost use Rattle.std.specs.Prelude.{◌≡◌, ◌+◌, ◌*◌, ◌/◌, ◌%◌, ◌<◌, ◌≤◌, length, IfOk};
 ghost use Rattle.bf_cells.specs.Shell.{IsShell, blank_walls, with_value, with_wall, wall_of, face_values};
-ghost use Rattle.bf_cells.specs.Levels.{doubled_face, face_mean, with_quarter};
+ghost use Rattle.bf_cells.specs.Levels.{doubled_face, doubled_square, face_mean, square_at, with_quarter};
 
 use crate::Memory;
 use crate::cells::Cells;
@@ -8,6 +8,7 @@ use crate::cubes::Cube;
 use crate::faces::copy_face;
 use crate::levels::{double_face, mean_quarter};
 use crate::places::square_place;
+use crate::quarters::{double_square, write_quarter};
 use crate::squares::Squares;
 use bf_face::Face;
 use std::alloc::Global;
@@ -129,6 +130,44 @@ impl Shell {
         let b = half_b as usize;
         let square = self.squares.square_mut(face);
         mean_quarter(cells.values(), side, of_face, a, b, square);
+    }
+
+    /// Makes the square of a face hold these values.
+    pub fn lay(&mut self, face: Face, values: &[u32])
+        requires { length values.now ≡ self.old.side * self.old.side }
+        ensures values { self.new ≡ with_wall self.old face values.now }
+        ensures side { self.new.side ≡ self.old.side }
+    {
+        let square = self.squares.square_mut(face);
+        square.copy_from_slice(values);
+    }
+
+    /// Makes the square of a face hold the values of a square of half the side, each at four places.
+    pub fn lay_doubled(&mut self, face: Face, values: &[u32])
+        requires { length values.now ≡ self.old.side / 2 * (self.old.side / 2) }
+        ensures values { self.new ≡ with_wall self.old face (doubled_square self.old.side values.now) }
+        ensures side { self.new.side ≡ self.old.side }
+    {
+        let side = self.side as usize;
+        let square = self.squares.square_mut(face);
+        double_square(values, side, square);
+    }
+
+    /// Writes a square of half the side into a quarter of a face's square, which is told by its halves, as in
+    /// [`Shell::set_wall_doubled`].
+    pub fn lay_quarter(&mut self, face: Face, half_a: u32, half_b: u32, values: &[u32])
+        requires half_a { half_a < 2 }
+        requires half_b { half_b < 2 }
+        requires values { length values.now ≡ self.old.side / 2 * (self.old.side / 2) }
+        ensures values { self.new
+            ≡ with_wall self.old face (with_quarter self.old.side half_a half_b (square_at (self.old.side / 2) values.now) (wall_of self.old face)) }
+        ensures side { self.new.side ≡ self.old.side }
+    {
+        let side = self.side as usize;
+        let a = half_a as usize;
+        let b = half_b as usize;
+        let square = self.squares.square_mut(face);
+        write_quarter(values, side, a, b, square);
     }
 
     // A cube of cells with this shell round it.

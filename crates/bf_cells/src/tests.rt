@@ -124,6 +124,40 @@ fn a_finer_face_is_averaged(rt: HostRuntime) -> Result<(), Fail> {
 }
 
 #[test]
+fn means_stand_in_a_list(rt: HostRuntime) -> Result<(), Fail> {
+    let mut cells = Cells::filled(rt.alloc(), 2, 3)?;
+    cells.put_row(0, 2, 1, 0, 10);
+    assert_eq!(rt; cells.means()?.as_slice(), [4].as_slice());
+    let means = rising(rt.alloc())?.means()?;
+    assert_eq!(rt;
+        means.as_slice(),
+        [84, 100, 148, 164, 340, 356, 404, 420].as_slice()
+    );
+    Ok(())
+}
+
+#[test]
+fn an_octant_is_loaded(rt: HostRuntime) -> Result<(), Fail> {
+    let mut cells = Cells::filled(rt.alloc(), 4, 9)?;
+    cells.load_octant(6, [1, 2, 3, 4, 5, 6, 7, 8].as_slice());
+    let inside = [
+        cells.get(0, 2, 2),
+        cells.get(1, 2, 2),
+        cells.get(0, 3, 2),
+        cells.get(1, 3, 3),
+    ];
+    let beside = [
+        cells.get(2, 2, 2),
+        cells.get(0, 1, 2),
+        cells.get(0, 2, 1),
+        cells.get(3, 3, 3),
+    ];
+    assert_eq!(rt; inside, [1, 2, 3, 8]);
+    assert_eq!(rt; beside, [9; 4]);
+    Ok(())
+}
+
+#[test]
 fn values_are_loaded(rt: HostRuntime) -> Result<(), Fail> {
     let mut cells = Cells::filled(rt.alloc(), 2, 9)?;
     cells.load([1, 2, 3, 4, 5, 6, 7, 8].as_slice());

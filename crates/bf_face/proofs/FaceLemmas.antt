@@ -32,7 +32,7 @@ at-number_of ZLow = refl
 at-number_of ZHigh = refl
 
 -- two faces have two numbers
-one_number : (face other : Face) → number_of face ≡ number_of other → face ≡ other
+pub one_number : (face other : Face) → number_of face ≡ number_of other → face ≡ other
 one_number face other same = sym (at-number_of face) ∙ ap (λ n. get_or all_faces n XLow) same ∙ at-number_of other
 
 -- the first so many faces have a property

@@ -1,1 +1,2 @@
+-- The faces of a box.
 pub mod Face

@@ -3,6 +3,7 @@ pub mod Halves
 pub mod Axes
 pub mod Steps
 pub mod Cubes
+pub mod Sharing
 pub mod Boxes
 pub mod Tilings
 pub mod Rising

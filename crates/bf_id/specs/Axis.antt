@@ -6,7 +6,8 @@ use Rattle.bf_id.specs.Cube.{Meets, Overlaps, meets}
 pub record Axis : Type 0 where
   pub extent : ℕ
 
--- two places of the axis stand so to each other
+-- two places of the axis stand so to each other; what asks how stretches lie to each other asks this, and steps along the
+-- axis don't
 abbrev pub Somewhere : Axis → (ℕ → ℕ → Type 0) → ℕ → ℕ → Type 0
 Somewhere axis P a b = P a b
 

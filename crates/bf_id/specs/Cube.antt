@@ -1,5 +1,5 @@
 -- Boxes of the octree forest: cubes of whole units. A root's edge is 16 units.
-use Rattle.std.specs.Prelude.{ℕ, ◌+◌, ◌*◌, ◌/◌, ◌%◌, ◌<◌, ◌≤◌, ◌&&◌, nat_lt, nat_le, Bool, List, [], ◌∷◌}
+use Rattle.std.specs.Prelude.{ℕ, ◌+◌, ◌-◌, ◌*◌, ◌^◌, ◌/◌, ◌%◌, ◌<◌, ◌≤◌, ◌&&◌, nat_lt, nat_le, Bool, List, [], ◌∷◌}
 
 -- a cube, by its low corner and its edge
 pub record Cube : Type 0 where
@@ -13,6 +13,10 @@ pub record IsNear (c : Cube) : Type 0 where
   pub near_x : c.x + c.edge ≤ 256
   pub near_y : c.y + c.edge ≤ 256
   pub near_z : c.z + c.edge ≤ 256
+
+-- a cube, told in boxes of a level in place of units
+abbrev pub in_boxes : ℕ → Cube → Cube
+in_boxes level c = let edge = 2 ^ (4 - level) in record { x = c.x / edge; y = c.y / edge; z = c.z / edge; edge = c.edge / edge }
 
 -- a unit of space, by its low corner
 pub record Voxel : Type 0 where

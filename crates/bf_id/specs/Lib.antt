@@ -1,3 +1,4 @@
+-- Blocks by their ids: boxes, neighbours, tilings, order and text.
 pub mod Cube
 pub mod Axis
 pub mod Shape
@@ -5,6 +6,7 @@ pub mod Meeting
 pub mod Id
 pub mod IdFields
 pub mod Face
+pub mod Sharing
 pub mod Neighbours
 pub mod Tiling
 pub mod Walk

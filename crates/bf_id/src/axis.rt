@@ -69,7 +69,8 @@ impl Axis {
         end == self.extent
     }
 
-    /// The place so far before one that isn't at the domain's edge.
+    /// The place so far before one that isn't at the domain's edge. An axis without an end would go round here, which a step
+    /// longer than the axis, or past its beginning, couldn't: so both are asked.
     pub fn back(self, step: u32, place: u32) -> u32
         requires fits { step ≤ self.extent }
         requires far { 0 < place → step ≤ place }

@@ -1,5 +1,5 @@
 ghost use Rattle.bf_id.specs.Axis.{JoinsOn, MeetsOn, OverlapsOn};
-ghost use Rattle.bf_id.specs.Cube.{halved, narrowed, Meets, Overlaps};
+ghost use Rattle.bf_id.specs.Cube.{halved, in_boxes, narrowed, Meets, Overlaps};
 ghost use Rattle.bf_id.specs.Face.{JoinsX, JoinsY, JoinsZ, OverlapsX, OverlapsY, OverlapsZ, SharesFace};
 ghost use Rattle.bf_id.specs.Meeting.{Meet};
 ghost use Rattle.bf_id.specs.Neighbours.{place_beside, unit_across, unit_beside, IsAtEdge, IsPlaced};
@@ -96,6 +96,20 @@ impl Cube {
         ensures { result ≡ self.edge }
     {
         self.edge
+    }
+
+    /// The cube told in boxes of a level: where it begins, and how many of them are along its edge.
+    pub fn in_boxes(self, level: u32) -> Cube
+        requires { level ≤ 4 }
+        ensures { result ≡ in_boxes level self }
+    {
+        let shift = 4 - level;
+        Cube {
+            x: self.x >> shift,
+            y: self.y >> shift,
+            z: self.z >> shift,
+            edge: self.edge >> shift,
+        }
     }
 
     /// Whether a face lies at the domain's edge.

@@ -7,8 +7,11 @@
 //!
 //! From its id come a block's parent and children, its box, whether it touches another block, and
 //! the face that it shares with it. A box is a [`Cube`] of units, which knows the units beside it
-//! and across its faces; all steps along an axis go by [`Axis`]. The order of ids is the walk
+//! and across its faces; each step to a neighbour goes by [`Axis`]. The order of ids is the walk
 //! through the octrees: a block, and then all that lies in it, octant by octant.
+//!
+//! `touches` and the laws on the order are for the layers that link blocks with their neighbours and
+//! keep them in order; the plain run has no need of them.
 #![tactic(auto)]
 
 mod axis;
@@ -22,6 +25,7 @@ mod shape;
 mod voxel;
 
 pub use axis::Axis;
+pub use bf_face::Face;
 pub use cube::Cube;
 pub use id::Id;
 pub use id_text::IdText;

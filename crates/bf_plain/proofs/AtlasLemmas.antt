@@ -11,7 +11,7 @@ use Rattle.std.proofs.lemmas.Map.Views.{Contains-from_any}
 use Rattle.std.proofs.lemmas.Map.Made.{IsDistinct-from_AllPairs}
 use Rattle.std.proofs.lemmas.Map.Steps.{length-le_from_distinct_below}
 use Rattle.bf_id.specs.declared.shape.Shape.{Shape}
-use Rattle.bf_id.specs.Cube.{Cube, Voxel, Spans, Holds, halved, narrowed, holds}
+use Rattle.bf_id.specs.Cube.{Cube, Voxel, Spans, Holds, halved, narrowed, holds, in_boxes}
 use Rattle.bf_id.specs.Shape.{IsShape, InDomain, root_cube}
 use Rattle.bf_id.specs.Id.{BlockId, IsId, InShape, level_of, box_of, root_id}
 use Rattle.bf_id.specs.Tiling.{Tiles}
@@ -20,9 +20,10 @@ use Rattle.bf_id.proofs.Boxes.{root_coordinates, root_from_coordinates, root_bel
 use Rattle.bf_id.proofs.Cubes.{narrowed_within}
 use Rattle.bf_case.specs.Map.{Leaf, ids_of}
 use Rattle.bf_case.specs.Sample.{scale_of}
+use Rattle.bf_case.proofs.AlignLemmas.{IsMultiple}
 use Rattle.bf_case.proofs.TestLemmas.{holds_decides}
 use Rattle.bf_case.proofs.SampleLemmas.{not_before_itself}
-use Rattle.bf_plain.specs.Atlas.{Chart, boxes_along, place_of, box_at, box_with, in_boxes, box_in, chart_place, number_at, id_at, HasUnit, Charts}
+use Rattle.bf_plain.specs.Atlas.{Chart, boxes_along, place_of, box_at, box_with, box_in, chart_place, number_at, id_at, HasUnit, Charts}
 
 -- ---- boxes by their places
 
@@ -117,17 +118,14 @@ Kept-more wide deep c number step q before numbers kept is some below x_in y_in 
 
 -- ---- boxes of blocks
 
-abbrev pub IsMultiple : ℕ → ℕ → Type 0
-IsMultiple unit n = (k : ℕ) × (n ≡ k * unit)
-
 -- the corner and the edge of a cube are multiples of a unit
 pub record OnGrid (unit : ℕ) (c : Cube) : Type 0 where
-  pub x : IsMultiple unit c.x
-  pub y : IsMultiple unit c.y
-  pub z : IsMultiple unit c.z
-  pub edge : IsMultiple unit c.edge
+  pub x : IsMultiple c.x unit
+  pub y : IsMultiple c.y unit
+  pub z : IsMultiple c.z unit
+  pub edge : IsMultiple c.edge unit
 
-half_multiple : (half low step : ℕ) → IsMultiple (2 * half) low → IsMultiple half (low + step * half)
+half_multiple : (half low step : ℕ) → IsMultiple low (2 * half) → IsMultiple (low + step * half) half
 half_multiple half low step (k, is) = (2 * k + step, rw is (omega arith))
 
 OnGrid-halved : (c : Cube) (octant half : ℕ) → c.edge ≡ 2 * half → OnGrid (2 * half) c → OnGrid half (halved c octant)
@@ -184,11 +182,11 @@ box_on_fine_grid shape i level coarse shallow =
       edge = (many, whole);
     }
   where
-    finer : {edge : ℕ} (many unit n : ℕ) → edge ≡ many * unit → IsMultiple edge n → IsMultiple unit n
+    finer : {edge : ℕ} (many unit n : ℕ) → edge ≡ many * unit → IsMultiple n edge → IsMultiple n unit
     finer many unit n e (k, is) = (k * many, is ∙ ap (λ j. k * j) e ∙ omega arith)
 
 -- along one axis, what units and boxes say
-spans_in_boxes : (unit low length u : ℕ) → 0 < unit → IsMultiple unit low → IsMultiple unit length → Spans low length u ↔ Spans (low / unit) (length / unit) (u / unit)
+spans_in_boxes : (unit low length u : ℕ) → 0 < unit → IsMultiple low unit → IsMultiple length unit → Spans low length u ↔ Spans (low / unit) (length / unit) (u / unit)
 spans_in_boxes unit low length u some (a, p) (n, q) =
     let a_is : low / unit ≡ a = ap (λ k. k / unit) p ∙ mul-div_cancel a some in
     let n_is : length / unit ≡ n = ap (λ k. k / unit) q ∙ mul-div_cancel n some in
@@ -218,7 +216,7 @@ pub record LiesIn (wide deep high : ℕ) (c : Cube) : Type 0 where
   pub along_y : c.y + c.edge ≤ deep
   pub along_z : c.z + c.edge ≤ high
 
-ends_within : (unit low length roots many : ℕ) → 0 < unit → many * unit ≡ 16 → IsMultiple unit low → IsMultiple unit length → low + length ≤ 16 * roots
+ends_within : (unit low length roots many : ℕ) → 0 < unit → many * unit ≡ 16 → IsMultiple low unit → IsMultiple length unit → low + length ≤ 16 * roots
     → low / unit + length / unit ≤ roots * many
 ends_within unit low length roots many some whole (a, p) (n, q) inside =
     let a_is : low / unit ≡ a = ap (λ k. k / unit) p ∙ mul-div_cancel a some in

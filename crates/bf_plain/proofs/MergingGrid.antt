@@ -7,7 +7,7 @@ use Rattle.bf_cells.specs.Grid.{Grid, cell_at, table, filled_with}
 use Rattle.bf_cells.specs.Octant.{octant_x, octant_y, octant_z, mean_at, in_octant, with_octant_mean}
 use Rattle.bf_cells.proofs.GridLemmas.{side-table, cell_at-table, same_tables}
 use Rattle.bf_case.specs.Regrid.{octant_at, merged_grid}
-use Rattle.bf_case.proofs.RegridCells.{IsOctant, octant_is}
+use Rattle.bf_case.proofs.RegridCells.{octant_is, in_octant_is}
 
 -- the parent's cells where the first so many children are written, and the others are 0
 unfoldable pub merging_grid : ℕ → (ℕ → Grid) → ℕ → Grid
@@ -37,22 +37,6 @@ merging_grid-all side half child twice some =
     let octant = octant_is half x y z some (omega arith) (omega arith) (omega arith) in
     let o : ℕ = octant_at half x y z in
     cond-true (nat_lt o 8) (mean_at (child o) (x % half) (y % half) (z % half)) 0 (lt-ltb o 8 octant.octal)))
-
--- the number of an octant, told by its three steps
-octant_test : (a b c p q r : ℕ) → a < 2 → b < 2 → c < 2 → p < 2 → q < 2 → r < 2
-    → (eqb a p && eqb b q && eqb c r) ≡ eqb (a + 2 * b + 4 * c) (p + 2 * q + 4 * r)
-octant_test a b c p q r ha hb hc hp hq hr = grind (arith, nat_tests)
-
--- a cell lies in the octant of its number
-in_octant_is : (half o x y z : ℕ) → IsOctant half x y z → o < 8
-    → (eqb (x / half) (octant_x o) && eqb (y / half) (octant_y o) && eqb (z / half) (octant_z o)) ≡ eqb (octant_at half x y z) o
-in_octant_is half o x y z is octal =
-    let a : x / half < 2 = omega (arith, is.along_x) in
-    let b : y / half < 2 = omega (arith, is.along_y) in
-    let c : z / half < 2 = omega (arith, is.along_z, is.octal) in
-    let number : octant_x o + 2 * octant_y o + 4 * octant_z o ≡ o = omega arith in
-    octant_test (x / half) (y / half) (z / half) (octant_x o) (octant_y o) (octant_z o) a b c (omega arith) (omega arith) (omega arith)
-    ∙ ap (eqb (octant_at half x y z)) number
 
 -- what is known up to one number, and at it
 one_more : (value : ℕ → ℕ) (n o : ℕ) → cond (eqb n o) (value o) (cond (ltb n o) (value n) 0) ≡ cond (ltb n (o + 1)) (value n) 0

@@ -13,7 +13,8 @@ use Rattle.bf_id.proofs.Boxes.{root_in_domain, edge-box}
 use Rattle.bf_id.proofs.Cubes.{narrowed_within}
 use Rattle.bf_case.specs.Sample.{scale_of}
 use Rattle.bf_id.specs.Neighbours.{IsPlaced, place_beside, unit_beside}
-use Rattle.bf_plain.proofs.AtlasLemmas.{IsMultiple, OnGrid, box_on_grid, box_on_fine_grid}
+use Rattle.bf_case.proofs.AlignLemmas.{IsMultiple}
+use Rattle.bf_plain.proofs.AtlasLemmas.{OnGrid, box_on_grid, box_on_fine_grid}
 
 -- ---- along one axis
 
@@ -41,7 +42,7 @@ near_meets axis low length side other other_length some room held = by (cases_eq
         meets_after axis low length other other_length inner (rw u at held)
 
 -- of two multiples, one below the other with a unit more is no greater
-no_greater : (unit low other : ℕ) → 0 < unit → IsMultiple unit low → IsMultiple unit other → other < low + unit → other ≤ low
+no_greater : (unit low other : ℕ) → 0 < unit → IsMultiple low unit → IsMultiple other unit → other < low + unit → other ≤ low
 no_greater unit low other some (a, p) (b, q) below = by (cases_lt a b)
   where
     by : (a < b) ⊎ (b ≤ a) → other ≤ low
@@ -53,7 +54,7 @@ no_greater unit low other some (a, p) (b, q) below = by (cases_lt a b)
         omega arith
 
 -- a stretch that meets another one, which is as long or shorter, has one of its places
-beside_met : (axis : Axis) (low length other other_length : ℕ) → 0 < length → 0 < other_length → IsMultiple length low → IsMultiple length other
+beside_met : (axis : Axis) (low length other other_length : ℕ) → 0 < length → 0 < other_length → IsMultiple low length → IsMultiple other length
     → low + length ≤ axis.extent → other + other_length ≤ axis.extent → MeetsOn axis low length other other_length
     → (side : ℕ) × (side < 3) × Spans other other_length (unit_beside axis low length side)
 beside_met axis low length other other_length some some_other low_is other_is room inside meets = elim (meets_cases axis low length other other_length some some_other room inside meets) [

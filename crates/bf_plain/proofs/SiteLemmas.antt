@@ -17,7 +17,7 @@ use Rattle.bf_cells.specs.Grid.{Grid}
 use Rattle.bf_cells.specs.Levels.{doubled_face, face_mean, in_quarter, with_quarter}
 use Rattle.bf_cells.specs.Shell.{Walls, face_cell, face_values, wall_at, wall_of, wall_place, with_wall}
 use Rattle.bf_cells.proofs.LevelLemmas.{get_or-doubled_face, get_or-with_quarter}
-use Rattle.bf_cells.proofs.WallLemmas.{get_or-face_values, side-with_wall, wall_of-with_wall_other, wall_of-with_wall_same}
+use Rattle.bf_cells.proofs.WallLemmas.{get_or-face_values, wall_at-with_wall_same, wall_of-with_wall_other}
 use Rattle.bf_case.specs.declared.case.Case.{Case}
 use Rattle.bf_id.specs.Neighbours.{IsAtEdge, IsPlaced, unit_across}
 use Rattle.bf_case.specs.Beside.{value_beside, HoldsBeside, LiesAcross}
@@ -124,8 +124,7 @@ pub laid_at : (old new : Walls) (face : Face) (wall : List ℕ) (side : ℕ) →
     → (a b : ℕ) → wall_at new face a b ≡ get_or wall (wall_place side a b) 0
 laid_at old new face wall side is fits a b =
     ap (λ (w : Walls). wall_at w face a b) is
-    ∙ ap (λ l. get_or l (wall_place (with_wall old face wall).side a b) 0) (wall_of-with_wall_same old face wall)
-    ∙ ap (λ s. get_or wall (wall_place s a b) 0) (side-with_wall old face wall ∙ fits)
+    ∙ wall_at-with_wall_same old face wall a b ∙ ap (λ s. get_or wall (wall_place s a b) 0) fits
 
 pub keeps : (old new : Walls) (face : Face) (wall : List ℕ) → new ≡ with_wall old face wall → KeepsOthers old new face
 keeps old new face wall is other apart =

@@ -29,10 +29,6 @@ box_at wide deep place = record { x = place % wide; y = place / wide % deep; z =
 abbrev pub box_with : ℕ → Voxel → Voxel
 box_with level v = let edge = scale_of level in record { x = v.x / edge; y = v.y / edge; z = v.z / edge }
 
--- a cube of units, told in boxes of a level
-abbrev pub in_boxes : ℕ → Cube → Cube
-in_boxes level c = let edge = scale_of level in record { x = c.x / edge; y = c.y / edge; z = c.z / edge; edge = c.edge / edge }
-
 -- the boxes of a cube in turn
 abbrev pub box_in : Cube → ℕ → Voxel
 box_in c step = record { x = c.x + step % c.edge; y = c.y + step / c.edge % c.edge; z = c.z + step / c.edge / c.edge }

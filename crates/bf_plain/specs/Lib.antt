@@ -1,3 +1,4 @@
+-- What the plain run keeps on its way through a map.
 pub mod Atlas
 pub mod Beginning
 pub mod Rebuild

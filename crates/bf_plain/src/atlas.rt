@@ -13,7 +13,6 @@ ghost use Rattle.bf_plain.specs.Atlas.{
   box_with,
   chart_place,
   id_at,
-  in_boxes,
   number_at,
   place_of,
   Charts,
@@ -23,7 +22,7 @@ ghost use Rattle.bf_plain.specs.Atlas.{
 use bf_case::Case;
 use bf_cells::Cells;
 use bf_edge::Memory;
-use bf_id::{Id, Shape, Voxel};
+use bf_id::{Cube, Id, Shape, Voxel};
 use std::alloc::Global;
 use std::marker::Model;
 
@@ -60,44 +59,6 @@ fn boxes_along(roots: u32, level: u32) -> usize
     ensures few { result ≤ 256 }
 {
     (roots as usize) << level
-}
-
-/// A cube of boxes of the finest level: the first along each axis, and how many there are along its edge.
-#[derive(Clone, Copy)]
-struct Extent {
-    x: usize,
-    y: usize,
-    z: usize,
-    edge: usize,
-}
-
-impl Model for Extent {
-    ghost use Rattle.bf_id.specs.Cube.{Cube};
-
-    ghost Value = { Cube };
-
-    ghost view = { λ e. record { x = e.x; y = e.y; z = e.z; edge = e.edge } };
-
-    ghost inverse = { λ c. record { x = c.x; y = c.y; z = c.z; edge = c.edge } };
-}
-
-impl Extent {
-    /// The boxes of a level that a block has, which is of this level or of a coarser one.
-    fn of(id: Id, shape: Shape, level: u32) -> Extent
-        requires domain { IsShape shape }
-        requires inside { InShape shape id }
-        requires shallow { level ≤ 4 }
-        ensures { result ≡ in_boxes level (box_of shape id) }
-    {
-        let [x, y, z] = id.corner(shape);
-        let shift = 4 - level;
-        Extent {
-            x: (x >> shift) as usize,
-            y: (y >> shift) as usize,
-            z: (z >> shift) as usize,
-            edge: (id.edge() >> shift) as usize,
-        }
-    }
 }
 
 /// How many boxes there are along x and along y in the whole domain.
@@ -140,8 +101,8 @@ fn chart_place(shape: Shape, level: u32, unit: Voxel) -> usize
     )
 }
 
-/// Where the list has the number of one of an extent's boxes, which are taken in turn.
-fn place_in(rows: Rows, extent: Extent, step: usize) -> usize
+/// Where the list has the number of one of an extent's boxes, which are taken in turn. Extents are told in boxes.
+fn place_in(rows: Rows, extent: Cube, step: usize) -> usize
     requires wide { rows.wide ≤ 256 }
     requires deep { rows.deep ≤ 256 }
     requires along_x { extent.x + extent.edge ≤ rows.wide }
@@ -151,17 +112,18 @@ fn place_in(rows: Rows, extent: Extent, step: usize) -> usize
     ensures exact { result ≡ place_of rows.wide rows.deep (box_in extent step) }
     ensures small { result < 2 ^ 32 }
 {
-    let edge = extent.edge;
+    let [x, y, z] = extent.corner();
+    let edge = extent.edge() as usize;
     place_of(
         rows,
-        extent.x + step % edge,
-        extent.y + step / edge % edge,
-        extent.z + step / edge / edge,
+        x as usize + step % edge,
+        y as usize + step / edge % edge,
+        z as usize + step / edge / edge,
     )
 }
 
 /// Gives each box of an extent this number.
-fn paint(numbers: &mut [u32], rows: Rows, extent: Extent, number: u32)
+fn paint(numbers: &mut [u32], rows: Rows, extent: Cube, number: u32)
     requires wide { rows.wide ≤ 256 }
     requires deep { rows.deep ≤ 256 }
     requires along_x { extent.x + extent.edge ≤ rows.wide }
@@ -172,7 +134,8 @@ fn paint(numbers: &mut [u32], rows: Rows, extent: Extent, number: u32)
     ensures kept { (place : ℕ) → (Holds extent (box_at rows.wide rows.deep place) → ⊥) → slice_index numbers.new place ≡ slice_index numbers.old place }
     ensures length { length numbers.new ≡ length numbers.old }
 {
-    for step in 0..extent.edge * extent.edge * extent.edge {
+    let edge = extent.edge() as usize;
+    for step in 0..edge * edge * edge {
         numbers[place_in(rows, extent, step)] = number;
     }
 }
@@ -195,7 +158,8 @@ fn number_boxes(numbers: &mut [u32], shape: Shape, level: u32, leaves: &[(Id, Ce
         deep: boxes_along(shape.ny, level),
     };
     for (number, (id, _)) in leaves.iter().enumerate() {
-        paint(numbers, rows, Extent::of(*id, shape, level), number as u32);
+        let extent = id.cube(shape).in_boxes(level);
+        paint(numbers, rows, extent, number as u32);
     }
 }
 

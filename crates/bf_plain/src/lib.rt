@@ -1,5 +1,8 @@
 //! The plain run: one map at a time, stepped and regridded by one process, with no ranks and no
 //! messages. Each call gives exactly what the model says.
+//!
+//! [`one_run`] is what the program calls. [`regridded`] and [`stepped`] are one move each, for whoever looks at a map between
+//! two moves; they copy the map first, as the run doesn't.
 #![tactic(auto)]
 
 mod atlas;

@@ -12,8 +12,8 @@ ghost use Rattle.bf_case.specs.Halves.{first_half, second_half};
 ghost use Rattle.bf_plain.specs.Survey.{IsCharted, IsFinerAcross, IsSite, KeepsOthers};
 
 use crate::atlas::Atlas;
-use crate::faces::{across_quarter, halves, octant_of};
-use bf_case::Case;
+use crate::faces::across_quarter;
+use bf_case::{Case, halves_along};
 use bf_cells::{Cells, Shell};
 use bf_face::Face;
 use bf_id::{Cube, Id, Voxel};
@@ -41,7 +41,7 @@ fn lay_coarser(shell: &mut Shell, id: Id, face: Face, cells: &Cells)
         (first_half face (octant_of id)) (second_half face (octant_of id))) }
     ensures side { shell.new.side ≡ shell.old.side }
 {
-    let (half_a, half_b) = halves(face, octant_of(id));
+    let (half_a, half_b) = halves_along(face, id);
     shell.set_wall_doubled(face, cells, face.opposite(), half_a, half_b);
 }
 

@@ -1,5 +1,4 @@
-use Rattle.std.proofs.Common.{ap, arith}
-use Rattle.bf_id.specs.Cube.{Cube}
+use Rattle.std.proofs.Common.{arith}
 use Rattle.bf_plain.proofs.AtlasLemmas.{Painted-more, Kept-more, place_of-below, some_steps, step_of-below, step_bound, all_steps}
 use Rattle.bf_plain.specs.Atlas.{box_at}
 use Rattle.bf_plain.proofs.atlas.paint.Goals as goal
@@ -7,7 +6,7 @@ use Rattle.bf_plain.proofs.atlas.paint.Goals as goal
 pub bounds-numbers-place_in : goal.bounds-numbers-place_in
 bounds-numbers-place_in c =
     let e = c.args.extent in
-    let step = step_bound c.extent.inside.edge e.edge c.loop-step.step (ap (λ (k : Cube). k.edge) c.extent.view_is) (omega arith) in
+    let step = step_bound c.edge-edge.result e.edge c.loop-step.step c.edge-edge.ensures (omega arith) in
     omega (
       arith,
       place_of-below c.args.rows.wide c.args.rows.deep c.place_in.result e c.loop-step.step c.place_in.ensures.exact
@@ -17,7 +16,7 @@ bounds-numbers-place_in c =
 pub loop-step-preserved : goal.loop-step-preserved
 loop-step-preserved c =
     let e = c.args.extent in
-    let step = step_bound c.extent.inside.edge e.edge c.loop-step.step (ap (λ (k : Cube). k.edge) c.extent.view_is) (omega arith) in
+    let step = step_bound c.edge-edge.result e.edge c.loop-step.step c.edge-edge.ensures (omega arith) in
     let some = some_steps e.edge c.loop-step.step step in
     let below = place_of-below c.args.rows.wide c.args.rows.deep c.place_in.result e c.loop-step.step c.place_in.ensures.exact
     some step c.requires.along_x c.requires.along_y in
@@ -33,5 +32,5 @@ returns-clause-painted c =
     let e = c.args.extent in
     λ place h.
     let below = step_of-below e (box_at c.args.rows.wide c.args.rows.deep place) h in
-    let done = all_steps c.extent.inside.edge e.edge c.loop-step.step (ap (λ (k : Cube). k.edge) c.extent.view_is) (omega arith) in
+    let done = all_steps c.edge-edge.result e.edge c.loop-step.step c.edge-edge.ensures (omega arith) in
     c.loop-step.invariant.painted place h (omega (arith, below, done))
