@@ -1,0 +1,4 @@
+pub mod SharingLemmas
+pub mod StripLemmas
+pub mod FillLemmas
+pub mod TellingLemmas

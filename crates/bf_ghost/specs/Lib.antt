@@ -1,0 +1,4 @@
+-- Strips, shells filled by them, and what ranks tell each other in a step.
+pub mod Strips
+pub mod Filling
+pub mod Telling

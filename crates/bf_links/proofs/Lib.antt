@@ -1,0 +1,5 @@
+pub mod SlotLemmas
+pub mod BoundLemmas
+pub mod LinkLemmas
+pub mod SearchLemmas
+pub mod RootLemmas
