@@ -1,13 +1,20 @@
-ghost use Rattle.std.specs.Prelude.{◌≡◌, ◌<◌, Contains, IsFalse, IsTrue, IfErr, IfOk};
+ghost use Rattle.std.specs.Prelude.{◌≡◌, ℕ, ◌<◌, Contains, IsFalse, IsTrue, IfErr, IfOk};
 ghost use Rattle.bf_id.specs.Shape.{root_count};
+ghost use Rattle.bf_id.specs.Id.{BlockId};
+ghost use Rattle.bf_case.specs.declared.case.Case.{Case};
+ghost use Rattle.bf_case.specs.declared.target.Target.TheVariants.{Merge, Refine};
 ghost use Rattle.bf_case.specs.Map.{ids_of};
 ghost use Rattle.bf_case.specs.Beside.{HoldSamples};
-ghost use Rattle.bf_block.specs.Block.{IsModels, initial_block, kept_block, stepped_block, map_at, after_regrid};
+ghost use Rattle.bf_block.specs.Runs.{CanRun};
+ghost use Rattle.bf_block.specs.Setup.{case_of};
+ghost use Rattle.bf_block.specs.Block.{IsModels, IsRegriddedTo, block_with, child_block, initial_block, kept_block, split_blocks, stepped_block, map_at, after_regrid};
+ghost use Rattle.bf_block.specs.Eighth.{AreOctet, eighth_of, merged_block};
 
-use crate::{Kept, Memory, Opening, Point, Setup};
+use crate::merging::merge;
+use crate::{Eighth, Kept, Memory, Opening, Point, Setup};
 use bf_case::{AsLeaf, filled_root};
 use bf_cells::{Cells, Shell};
-use bf_id::Id;
+use bf_id::{Id, Shape};
 use std::alloc::Global;
 use std::marker::Model;
 
@@ -62,6 +69,19 @@ impl Block {
         })
     }
 
+    // A block of what is known to be the model's.
+    pub(crate) fn of_model(setup: Setup, point: Point, id: Id, cells: Cells) -> Block
+        requires { IsModels (block_with (case_of setup) point id cells) }
+        ensures { result ≡ block_with (case_of setup) point id cells }
+    {
+        Block {
+            setup,
+            point,
+            id,
+            cells,
+        }
+    }
+
     pub fn id(&self) -> Id
         ensures { result ≡ self.now.id }
     {
@@ -72,6 +92,14 @@ impl Block {
         ensures { result ≡ self.now.point }
     {
         self.point
+    }
+
+    /// How many roots the domain has along each axis.
+    pub fn shape(&self) -> Shape
+        ensures value { result ≡ self.now.case.roots }
+        ensures runs { CanRun self.now.case }
+    {
+        self.setup.roots()
     }
 
     /// The cells, which are those of the model.
@@ -100,6 +128,67 @@ impl Block {
             point: Point::after_regrid(point.time),
             id,
             cells,
+        }
+    }
+
+    // The child of a refined leaf towards an octant.
+    fn child(&self, octant: u32) -> Result<Block, Memory>
+        requires refined { IsRegriddedTo Refine self.now.case self.now.point self.now.id }
+        requires octal { octant < 8 }
+        ensures { IfOk result (λ block. block ≡ child_block self.now octant) }
+    {
+        Ok(Block {
+            setup: self.setup.share()?,
+            point: Point::after_regrid(self.point.time),
+            id: self.id.child(octant),
+            cells: self.cells.octant_copy(octant)?,
+        })
+    }
+
+    // The eight children of a refined leaf.
+    fn children(&self, alloc: Global) -> Result<Vec<Block>, Memory>
+        requires { IsRegriddedTo Refine self.now.case self.now.point self.now.id }
+        ensures { IfOk result (λ blocks. blocks.items ≡ split_blocks self.now) }
+    {
+        let mut blocks = Vec::with_capacity(alloc, 8)?;
+        for octant in 0..8 {
+            blocks.push(self.child(octant)?)?;
+        }
+        Ok(blocks)
+    }
+
+    /// The eight children into which the regrid of its time refines this leaf, by rising octant. Where there is no memory for
+    /// all of them, the block comes back as it was.
+    pub fn split(self, alloc: Global) -> Result<Vec<Block>, Kept<Block>>
+        requires { IsRegriddedTo Refine self.case self.point self.id }
+        ensures blocks { IfOk result (λ blocks. blocks.items ≡ split_blocks self) }
+        ensures kept { IfErr result (λ kept. kept.value ≡ self) }
+    {
+        match self.children(alloc) {
+            Ok(blocks) => Ok(blocks),
+            Err(_) => Err(Kept { value: self }),
+        }
+    }
+
+    /// What this leaf gives to its parent, into which the regrid of its time merges it with its seven siblings.
+    pub fn eighth(&self) -> Result<Eighth, Memory>
+        requires { IsRegriddedTo Merge self.now.case self.now.point self.now.id }
+        ensures { IfOk result (λ eighth. eighth ≡ eighth_of self.now) }
+    {
+        Eighth::of_leaf(self.setup.share()?, self.point, self.id, &self.cells)
+    }
+
+    /// The block into which the eighths of eight siblings merge, which stand by rising octant. Where there is no memory for its
+    /// cells, the eighths come back as they were.
+    pub fn merged(alloc: Global, parts: Vec<Eighth>) -> Result<Block, Kept<Vec<Eighth>>>
+        requires { (c : Case) × ((time : ℕ) × ((parent : BlockId) × AreOctet c time parent parts.items)) }
+        ensures block { (c : Case) (time : ℕ) (parent : BlockId) → AreOctet c time parent parts.items
+            → IfOk result (λ block. block ≡ merged_block c time parent parts.items) }
+        ensures kept { IfErr result (λ kept. kept.value ≡ parts) }
+    {
+        match merge(alloc, parts.as_slice()) {
+            Ok(block) => Ok(block),
+            Err(_) => Err(Kept { value: parts }),
         }
     }
 

@@ -116,8 +116,7 @@ impl Setup {
 
     /// Steps from one regrid to the next: 0, for none.
     pub fn regrid(&self) -> u32
-        ensures value { result ≡ (case_of self.now).regrid }
-        ensures none { result ≡ 0 }
+        ensures { result ≡ (case_of self.now).regrid }
     {
         self.case().regrid
     }

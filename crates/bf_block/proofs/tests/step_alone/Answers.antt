@@ -1,4 +1,4 @@
-use Rattle.std.proofs.Common.{◌≡◌, true, Some, List, ap, subst, sym, ◌∙◌, arith}
+use Rattle.std.proofs.Common.{◌≡◌, true, Some, List, inl, ap, subst, sym, ◌∙◌, arith}
 use Rattle.bf_id.specs.declared.shape.Shape.{Shape}
 use Rattle.bf_id.specs.Id.{BlockId, root_id}
 use Rattle.bf_id.specs.Shape.{root_count}
@@ -19,11 +19,11 @@ use Rattle.bf_block.proofs.Walls.{walls_hold}
 use Rattle.bf_block.proofs.tests.step_alone.Goals as goal
 
 -- a lone root between its own walls
-lone_holds : (c : Case) (b : BlockValue) (g : Grid) → CanRun c → IsModels b → b.case ≡ c → b.point ≡ after_regrid 0 → b.id ≡ root_id 0
+lone_holds : (c : Case) (b : BlockValue) (g : Grid) → CanRun c → c.regrid ≡ 0 → IsModels b → b.case ≡ c → b.point ≡ after_regrid 0 → b.id ≡ root_id 0
     → root_count c.roots ≡ 1 → g ≡ b.cells → HoldSamples b.case.roots (map_at b.case b.point) b.id b.cells (walls_around c.roots c.side (λ _. g) 0)
-lone_holds c b g runs is of_case at named lone same =
+lone_holds c b g runs none is of_case at named lone same =
     let found : cells_at (model c 0) (root_id 0) ≡ Some b.cells =
-    subst (λ (leaves : List Leaf). cells_at leaves (root_id 0) ≡ Some b.cells) (model_regridded c 0 runs)
+    subst (λ (leaves : List Leaf). cells_at leaves (root_id 0) ≡ Some b.cells) (model_regridded c 0 runs.valid (inl none))
     (subst (λ (i : BlockId). cells_at (model_at c 0 true) i ≡ Some b.cells) named
     (subst (λ (p : Point). cells_at (map_at c p) b.id ≡ Some b.cells) at
     (subst (λ (k : Case). cells_at (map_at k b.point) b.id ≡ Some b.cells) of_case is.leaf))) in
@@ -31,7 +31,7 @@ lone_holds c b g runs is of_case at named lone same =
     (subst (λ (p : Point). HoldSamples c.roots (map_at c p) b.id b.cells (walls_around c.roots c.side (λ _. g) 0)) (sym at)
     (subst (λ (i : BlockId). HoldSamples c.roots (map_at c (after_regrid 0)) i b.cells (walls_around c.roots c.side (λ _. g) 0)) (sym named)
     (subst (λ (h : Grid). HoldSamples c.roots (map_at c (after_regrid 0)) (root_id 0) h (walls_around c.roots c.side (λ _. g) 0)) same
-    (walls_hold c 0 0 (λ _. g) runs (omega arith)
+    (walls_hold c 0 0 (λ _. g) runs.valid (inl none) (omega arith)
     (λ k around. let below = around_is_root c.roots 0 k runs.valid.sized.shape (omega arith) around in
     let only : 0 ≡ k = omega arith in
     subst (λ n. cells_at (model c 0) (root_id n) ≡ Some g) only (found ∙ ap Some (sym same)))))))
@@ -55,5 +55,5 @@ stepped-requires-clause-samples c =
     (sym (c.surround.ensures.walls
     ∙ ap (λ (s : Shape). walls_around s c.in_ok-shell.shell.side (λ _. c.cells.result.now) 0) c.roots.ensures.value
     ∙ ap (λ n. walls_around case.roots n (λ _. c.cells.result.now) 0) side))
-    (lone_holds case c.args.block c.cells.result.now (every_setup_runs c.args.setup.now) c.cells.ensures.model c.requires.case c.requires.point c.requires.id
+    (lone_holds case c.args.block c.cells.result.now (every_setup_runs c.args.setup.now) c.requires.rests c.cells.ensures.model c.requires.case c.requires.point c.requires.id
     c.requires.lone c.cells.ensures.cells)

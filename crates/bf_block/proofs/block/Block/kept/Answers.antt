@@ -4,4 +4,4 @@ use Rattle.bf_block.proofs.block.Block.kept.Goals as goal
 
 pub invariant_of-result : goal.invariant_of-result
 invariant_of-result c =
-    rw c.after_regrid.ensures (kept_is_models (block_in c.self.inside) c.args.self c.self.view_is c.self.inside.setup.runs c.self.invariant c.requires.fresh)
+    rw c.after_regrid.ensures (kept_is_models (block_in c.self.inside) c.args.self c.self.view_is c.self.invariant c.requires.fresh c.requires.leaf)
