@@ -7,9 +7,9 @@ use Rattle.bf_case.specs.MapText.{map_text}
 use Rattle.bf_case.specs.Model.{model}
 use Rattle.bf_case.specs.declared.case.Case.{Case}
 use Rattle.bf_block.specs.Block.{BlockValue, leaf_of}
-use Rattle.bf_block.specs.Runs.{CanRun}
-use Rattle.bf_block.specs.declared.setup.Setup.{Setup}
-use Rattle.bf_block.specs.Setup.{case_of, every_setup_runs}
+use Rattle.bf_forest.specs.Cases.{KeepsRoots}
+use Rattle.bf_forest.specs.declared.setup.Setup.{Setup}
+use Rattle.bf_forest.specs.Setup.{case_of, every_setup_keeps_roots}
 use Rattle.bf_core.specs.declared.event.Event.{Event}
 use Rattle.bf_core.specs.declared.outcome.Outcome.TheVariants.{Finished}
 use Rattle.bf_core.specs.States.{is_finished}
@@ -30,7 +30,7 @@ HasLeaves = (setup : Setup) (journal : List Event) → IsTrue (is_journal forest
     → AreLeaves (model (case_of setup) (case_of setup).steps) (blocks_of (run_after forest setup journal).parcels)
 
 abbrev pub AreInOrder : Type 0
-AreInOrder = (c : Case) (time : ℕ) (blocks sorted : List BlockValue) → CanRun c → AreLeaves (model c time) blocks
+AreInOrder = (c : Case) (time : ℕ) (blocks sorted : List BlockValue) → KeepsRoots c → AreLeaves (model c time) blocks
     → IsPermutation blocks sorted → IsNonDecreasingBy (λ (block : BlockValue). block.id.root) sorted
     → map leaf_of sorted ≡ model c time
 
@@ -43,7 +43,7 @@ finished_text block_of world leaves has order is finished same rising =
     let its : AreLeaves (model c c.steps) (blocks_of world.parcels) =
     subst (λ l. AreLeaves (model c c.steps) (blocks_of l)) (sym is.parcels) (has world.setup world.journal is.legal finished) in
     ap map_text (sym (map-map leaf_of block_of leaves)
-    ∙ order c c.steps (blocks_of world.parcels) (map block_of leaves) (every_setup_runs world.setup) its same rising)
+    ∙ order c c.steps (blocks_of world.parcels) (map block_of leaves) (every_setup_keeps_roots world.setup) its same rising)
 
 -- the ranks have run the case of their world
 pub has_run : (c : Case) (w : ForestWorld) → case_of w.setup ≡ c → IsTrue (is_finished (core_after forest w.setup w.journal))

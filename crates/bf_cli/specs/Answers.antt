@@ -6,7 +6,7 @@ use Rattle.bf_case.specs.declared.case.Case.{Case}
 use Rattle.bf_case.specs.Case.{IsValid}
 use Rattle.bf_case.specs.Model.{model}
 use Rattle.bf_case.specs.MapText.{map_text}
-use Rattle.bf_block.specs.Setup.{case_of}
+use Rattle.bf_forest.specs.Setup.{case_of}
 use Rattle.bf_core.specs.declared.outcome.Outcome.TheVariants.{Finished}
 use Rattle.bf_cli.specs.declared.command.Command.{Command}
 use Rattle.bf_cli.specs.declared.command.Command.TheVariants as commands

@@ -24,7 +24,7 @@ IsCommand words command = texts words ≡ words_of command
 abbrev pub IsUsage : Words → Type 0
 IsUsage words = (command : Command) → IsCommand words command → ⊥
 
--- whether a command serves a case yet: one process serves all; ranks those with no regrid, one snapshot, at the end, and no deaths
+-- whether a command serves a case: one process serves all; ranks those with no regrid, one snapshot, at the end, and no deaths
 abbrev pub serves : Command → Case → Bool
 serves commands.One c = true
 serves commands.Drive c = (c.regrid == 0) && (nat_le c.steps c.snapshot && (length c.dies == 0))

@@ -9,7 +9,7 @@ use Rattle.bf_cli.specs.declared.input.Input.{Input}
 use Rattle.bf_cli.specs.declared.input.Input.TheVariants as input
 use Rattle.bf_cli.specs.Commands.{serves}
 
--- the case, where the command serves it; else it isn't built yet, which is told of the whole input
+-- the case, where the command serves it; else that it doesn't, which is told of the whole input
 abbrev pub if_served : Command → Case → Input
 if_served command c = if serves command c then input.Accepted c else input.Refused 0 99
 

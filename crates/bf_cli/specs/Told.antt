@@ -1,7 +1,7 @@
 -- What there is to tell, before it is told.
 use Rattle.std.specs.Prelude.{◌≡◌, ◌⊎◌, ℕ, List, Option, Some, None}
 use Rattle.bf_case.specs.MapText.{map_text}
-use Rattle.bf_block.specs.Setup.{case_of}
+use Rattle.bf_forest.specs.Setup.{case_of}
 use Rattle.bf_core.specs.declared.outcome.Outcome.TheVariants.{Finished}
 use Rattle.bf_cli.specs.declared.status.Status.{Status}
 use Rattle.bf_cli.specs.declared.status.Status.TheVariants as status

@@ -18,10 +18,10 @@ pub enum Input {
     Refused { line: u32, code: u32 },
 }
 
-/// The code of a case that the command doesn't serve yet.
-const NOT_BUILT: u32 = 99;
+/// The code of a case that the command doesn't serve.
+const NOT_SERVED: u32 = 99;
 
-/// Whether the command serves the case yet.
+/// Whether the command serves the case.
 fn serves(command: Command, case: &Case) -> bool
     ensures { result ≡ serves command case.now }
 {
@@ -41,7 +41,7 @@ fn if_served(command: Command, case: Case) -> Input
     }
     Input::Refused {
         line: 0,
-        code: NOT_BUILT,
+        code: NOT_SERVED,
     }
 }
 

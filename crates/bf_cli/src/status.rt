@@ -11,7 +11,7 @@ pub enum Status {
     Ok,
     /// The words are no command.
     Usage,
-    /// The input spells no case, or one that isn't served yet. Lines count from 1; line 0 is the whole input.
+    /// The input spells no case, or one that the command doesn't serve. Lines count from 1; line 0 is the whole input.
     Refused { line: u32, code: u32 },
     /// Memory was refused before anything was written.
     Memory,

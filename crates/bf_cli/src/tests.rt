@@ -177,7 +177,7 @@ fn expect_refusal(
     expect_of(rt, alloc, command, bytes, status, text.as_str())
 }
 
-/// What ranks don't serve yet is told last: what is no case has its own refusal.
+/// What ranks don't serve is told last: what is no case has its own refusal.
 #[test]
 fn what_is_not_built_is_refused(rt: HostRuntime) -> Result<(), Fail> {
     let alloc = rt.alloc();

@@ -79,7 +79,7 @@ fn answer_to<R: Source>(alloc: Global, words: &[&str], source: &mut R) -> Answer
 /// The commands are `one` and `drive`. Both read a case, in at most 1,048,576 bytes, and print the map after all steps: `one`
 /// by one process alone, `drive` by ranks whose turns follow the case's order. An input that spells no case is refused by
 /// its first line at fault and the number of the cause (`bf_text::Code`). A case with a regrid, with a snapshot before the
-/// end or with a death is refused by `drive` with line 0 and code 99, since it doesn't serve it yet. All memory is taken
+/// end or with a death is refused by `drive` with line 0 and code 99, since it doesn't serve it. All memory is taken
 /// before the first byte is written. Where several answers could be given the order is: usage, a fault in reading, a
 /// refusal, the map, a fault in writing. Want of memory may come in place of a refusal or the map.
 pub fn plain<R: Source, W: Sink>(

@@ -1,5 +1,5 @@
 -- Blocks that are the leaves of a map of roots, in order.
-use Rattle.std.proofs.Common.{◌≡◌, ℕ, zero, suc, ◌+◌, ◌<◌, ◌≤◌, Bool, true, false, cond, List, [], ◌∷◌, length, get_or, map, refl, ap, sym, ◌∙◌, arith, All, Contains, zero-add}
+use Rattle.std.proofs.Common.{◌≡◌, ℕ, zero, suc, ◌+◌, ◌<◌, ◌≤◌, Bool, true, false, cond, List, [], ◌∷◌, length, get_or, map, refl, ap, sym, subst, ◌∙◌, arith, All, Contains, zero-add}
 use Rattle.std.specs.Prelude.{◌==◌, ◌&&◌, nat_le, nat_lt, AllPairs, Some, IsPermutation}
 use Rattle.std.specs.List.{range_with_len, count_by}
 use Rattle.std.specs.List.Sorted.{IsNonDecreasingBy}
@@ -14,19 +14,30 @@ use Rattle.std.proofs.lemmas.Option.{same_Some}
 use Rattle.bf_id.specs.Shape.{root_count}
 use Rattle.bf_id.specs.Id.{BlockId, root_id, id_eq}
 use Rattle.bf_id.proofs.Boxes.{id_eq_is_equal}
-use Rattle.bf_id.proofs.Tilings.{Contains-head, Contains-tail}
+use Rattle.bf_id.proofs.Tilings.{Contains-from_fn_cases, Contains-head, Contains-tail}
+use Rattle.bf_cells.specs.Grid.{Grid}
 use Rattle.bf_case.specs.declared.case.Case.{Case}
 use Rattle.bf_case.specs.Around.{grid_at, nothing}
-use Rattle.bf_case.specs.Map.{Leaf, cells_at}
+use Rattle.bf_case.specs.Map.{Leaf, cells_at, ids_of}
 use Rattle.bf_case.specs.Model.{model}
+use Rattle.bf_case.proofs.ListLemmas.{Contains-map}
+use Rattle.bf_case.proofs.LookupLemmas.{leaf_from_cells_at}
+use Rattle.bf_case.proofs.MapLemmas.{IsRootMap-model}
 use Rattle.bf_case.proofs.RootModel.{roots_of_model, cells_of_root}
 use Rattle.bf_case.proofs.RootSteps.{roots_are}
 use Rattle.bf_block.specs.Block.{BlockValue, leaf_of}
-use Rattle.bf_block.specs.Runs.{never_refines, CanRun}
+use Rattle.bf_forest.specs.Cases.{KeepsRoots}
 use Rattle.bf_lemmas.proofs.Tests.{same_tests}
 use Rattle.bf_parts.specs.Counts.{once, count_cons}
 use Rattle.bf_forest.specs.Leaves.{times_among, AreLeaves}
-use Rattle.bf_forest.specs.StepLaws.{root_of_leaf}
+
+-- a leaf is a root
+root_of_leaf : (c : Case) (time : ℕ) (i : BlockId) (g : Grid) → KeepsRoots c → cells_at (model c time) i ≡ Some g → (i ≡ root_id i.root) × (i.root < root_count c.roots)
+root_of_leaf c time i g runs found =
+    let has_id : Contains (ids_of (model c time)) i = Contains-map (λ (leaf : Leaf). leaf.0) (model c time) (i, g) (leaf_from_cells_at (model c time) i g found) in
+    let its = Contains-from_fn_cases root_id (root_count c.roots) i (subst (λ (ids : List BlockId). Contains ids i) (IsRootMap-model c time runs.valid runs.never).roots has_id) in
+    let root : i.root ≡ its.0 = ap (λ (j : BlockId). j.root) its.2 in
+    (its.2 ∙ ap root_id (sym root), rw root its.1)
 
 -- what does not fall along a list does not fall along its values
 pub nondecreasing_map : {X Y : Type 0} (n : Y → ℕ) (f : X → Y) (xs : List X) → IsNonDecreasingBy (λ x. n (f x)) xs → IsNonDecreasingBy n (map f xs)
@@ -180,7 +191,7 @@ none_beyond count k (b ∷ blocks) beyond below =
     ∙ zero-add (held (λ (x : BlockValue). x.id.root) blocks k)
     ∙ none_beyond count k blocks beyond (All-tail (λ (x : BlockValue). x.id.root < count) b blocks below)
 
-module _ (c : Case) (time : ℕ) (runs : CanRun c) where
+module _ (c : Case) (time : ℕ) (runs : KeepsRoots c) where
   are_roots : (blocks : List BlockValue) → All (λ (b : BlockValue). cells_at (model c time) b.id ≡ Some b.cells) blocks
       → All (λ (b : BlockValue). (b.id ≡ root_id b.id.root) × (b.id.root < root_count c.roots)) blocks
   are_roots blocks cells = All-weaker (λ (b : BlockValue). cells_at (model c time) b.id ≡ Some b.cells)
@@ -204,7 +215,7 @@ module _ (c : Case) (time : ℕ) (runs : CanRun c) where
       at : (b : Bool) → nat_lt k (root_count c.roots) ≡ b → held (λ (b : BlockValue). b.id.root) blocks k ≡ once (is_in 0 (root_count c.roots) k)
       at true test =
           let below : k < root_count c.roots = grind (arith, nat_tests) in
-          let leaves = roots_are c.roots (model c time) (roots_of_model c time runs.valid (never_refines runs)) in
+          let leaves = roots_are c.roots (model c time) (roots_of_model c time runs.valid runs.never) in
           sym (counted_by_root blocks k (All-weaker (λ (b : BlockValue). (b.id ≡ root_id b.id.root) × (b.id.root < root_count c.roots)) (λ (b : BlockValue). b.id ≡ root_id b.id.root) (λ b is. is.0) blocks roots))
           ∙ ap (times_among blocks) (sym (leaves.1 k nothing below)) ∙ are.once k nothing (omega (arith, leaves.0, below))
           ∙ sym (within true test)
@@ -224,7 +235,7 @@ module _ (c : Case) (time : ℕ) (runs : CanRun c) where
       keys = map (λ (b : BlockValue). b.id.root) sorted
 
       leaves : (length (model c time) ≡ root_count c.roots) × ((k : ℕ) (d : Leaf) → k < root_count c.roots → (get_or (model c time) k d).0 ≡ root_id k)
-      leaves = roots_are c.roots (model c time) (roots_of_model c time runs.valid (never_refines runs))
+      leaves = roots_are c.roots (model c time) (roots_of_model c time runs.valid runs.never)
 
       cells : All (λ (b : BlockValue). cells_at (model c time) b.id ≡ Some b.cells) sorted
       cells = All-permutation (λ (b : BlockValue). cells_at (model c time) b.id ≡ Some b.cells) blocks sorted same are.cells
@@ -254,5 +265,5 @@ module _ (c : Case) (time : ℕ) (runs : CanRun c) where
           let root : b.id.root ≡ k = sym found.3 ∙ ap (λ xs. get_or xs k 0) all_roots ∙ (let e = get_or-range_with_len 0 (root_count c.roots) k 0 below in omega (arith, e)) in
           let id : b.id ≡ root_id k = (root_of_leaf c time b.id b.cells runs found.1).0 ∙ ap root_id root in
           let grid : b.cells ≡ grid_at (model c time) k =
-          same_Some b.cells (grid_at (model c time) k) (sym found.1 ∙ ap (cells_at (model c time)) id ∙ cells_of_root c time k runs.valid (never_refines runs) below) in
+          same_Some b.cells (grid_at (model c time) k) (sym found.1 ∙ ap (cells_at (model c time)) id ∙ cells_of_root c time k runs.valid runs.never below) in
           found.2 ∙ (λ j. (id j, grid j))

@@ -1,1 +1,2 @@
+-- What a finished run of the forest leaves.
 pub mod Parcels

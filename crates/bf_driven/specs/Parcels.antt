@@ -2,7 +2,9 @@
 use Rattle.std.specs.Prelude.{ℕ, List}
 use Rattle.std.specs.List.{flat_map}
 use Rattle.bf_block.specs.Block.{BlockValue}
+use Rattle.bf_msg.specs.declared.linked_block.LinkedBlock.{LinkedBlock}
+use Rattle.bf_forest.specs.Leaves.{bare_blocks}
 
 -- the blocks of all parcels, each of which names the rank that gave it
-abbrev pub blocks_of : List (ℕ × List BlockValue) → List BlockValue
-blocks_of parcels = flat_map (λ parcel. parcel.1) parcels
+abbrev pub blocks_of : List (ℕ × List LinkedBlock) → List BlockValue
+blocks_of parcels = flat_map (λ parcel. bare_blocks parcel.1) parcels

@@ -11,9 +11,9 @@ ghost use Rattle.bf_core.specs.States.{is_finished};
 ghost use Rattle.bf_world.specs.Runs.{run_after, is_journal};
 ghost use Rattle.bf_world.specs.Worlds.{core_after};
 ghost use Rattle.bf_block.specs.Block.{BlockValue, leaf_of};
-ghost use Rattle.bf_block.specs.Runs.{CanRun};
-ghost use Rattle.bf_block.specs.declared.setup.Setup.{Setup};
-ghost use Rattle.bf_block.specs.Setup.{case_of};
+ghost use Rattle.bf_forest.specs.Cases.{KeepsRoots};
+ghost use Rattle.bf_forest.specs.declared.setup.Setup.{Setup};
+ghost use Rattle.bf_forest.specs.Setup.{case_of};
 ghost use Rattle.bf_forest.specs.Leaves.{AreLeaves};
 ghost use Rattle.bf_forest.specs.Meanings.{forest};
 ghost use Rattle.bf_driven.specs.Parcels.{blocks_of};
@@ -39,7 +39,7 @@ pub fn a_finished_run_has_the_leaves()
 
 /// Blocks that are the leaves of a map of the model, put in rising order of their roots, are the map.
 pub fn leaves_in_order_are_the_map()
-    ensures { (c : Case) (time : ℕ) (blocks sorted : List BlockValue) → CanRun c → AreLeaves (model c time) blocks
+    ensures { (c : Case) (time : ℕ) (blocks sorted : List BlockValue) → KeepsRoots c → AreLeaves (model c time) blocks
         → IsPermutation blocks sorted → IsNonDecreasingBy (λ (block : BlockValue). block.id.root) sorted
         → map leaf_of sorted ≡ model c time }
 {}

@@ -1,24 +1,26 @@
 ghost use Rattle.std.specs.Prelude.{◌≡◌, ◌++◌, length, map, IfOk, OnOk, IsPermutation};
 ghost use Rattle.std.specs.List.Sorted.{IsNonDecreasingBy};
 ghost use Rattle.bf_block.specs.Block.{BlockValue};
+ghost use Rattle.bf_forest.specs.Leaves.{bare_blocks};
 ghost use Rattle.bf_driven.specs.Parcels.{blocks_of};
 
 use bf_block::{Block, Memory};
 use bf_items::Items;
+use bf_msg::LinkedBlock;
 use std::alloc::Global;
 
 // Adds the blocks of a part.
-fn add_part<'a>(blocks: &mut Vec<&'a Block>, part: &'a [Block]) -> Result<(), Memory>
-    ensures { OnOk result (map (λ block. block.now) blocks.new.items ≡ map (λ block. block.now) blocks.old.items ++ part.now) }
+fn add_part<'a>(blocks: &mut Vec<&'a Block>, part: &'a [LinkedBlock]) -> Result<(), Memory>
+    ensures { OnOk result (map (λ block. block.now) blocks.new.items ≡ map (λ block. block.now) blocks.old.items ++ bare_blocks part.now) }
 {
-    for block in part {
-        blocks.push(block)?;
+    for linked in part {
+        blocks.push(&linked.block)?;
     }
     Ok(())
 }
 
 // The blocks of all parcels, as they lie there.
-fn blocks_of(alloc: Global, parcels: &[(u32, Items<Block>)]) -> Result<Vec<&Block>, Memory>
+fn blocks_of(alloc: Global, parcels: &[(u32, Items<LinkedBlock>)]) -> Result<Vec<&Block>, Memory>
     ensures { IfOk result (λ blocks. map (λ block. block.now) blocks.items ≡ blocks_of parcels.now) }
 {
     let mut blocks = Vec::new(alloc);
@@ -38,7 +40,7 @@ fn sort(blocks: &mut [&Block])
 }
 
 /// The blocks of all parcels, by rising root. No cell is copied.
-pub fn leaves(alloc: Global, parcels: &[(u32, Items<Block>)]) -> Result<Vec<&Block>, Memory>
+pub fn leaves(alloc: Global, parcels: &[(u32, Items<LinkedBlock>)]) -> Result<Vec<&Block>, Memory>
     ensures same { IfOk result (λ blocks. IsPermutation (blocks_of parcels.now) (map (λ block. block.now) blocks.items)) }
     ensures rising { IfOk result (λ blocks. IsNonDecreasingBy (λ (block : BlockValue). block.id.root) (map (λ block. block.now) blocks.items)) }
 {

@@ -114,11 +114,21 @@ fn expect_course(
 }
 
 // Messages of one block.
-fn send(rank: u32, to: u32, sum: u64) -> Event {
+fn copy(rank: u32, to: u32, sum: u64) -> Event {
     Event::Send {
         rank,
         to,
         blocks: 1,
+        sum,
+    }
+}
+
+// Messages without a block: strips, or nothing at all.
+fn tell(rank: u32, to: u32, sum: u64) -> Event {
+    Event::Send {
+        rank,
+        to,
+        blocks: 0,
         sum,
     }
 }
@@ -206,8 +216,56 @@ fn a_death_at_the_opening_is_survived(rt: HostRuntime) -> Result<(), Fail> {
     Ok(())
 }
 
-// Rank 1 dies once it has arrived. A step makes 80 70 of four rows of 80 80, with a sum of 600, and 10 0 of four rows of
-// 0 0, with a sum of 40.
+// Of three roots in a row, one cell of the first is 8. Ranks 0 and 2 are no neighbours, so they are no peers in the step's
+// round; in the snapshot's all are. A step leaves 7 in the first root and brings 1 into the second.
+#[test]
+fn ranks_talk_to_neighbours_alone(rt: HostRuntime) -> Result<(), Fail> {
+    let alloc = rt.alloc();
+    let drop = Fill {
+        low: [1, 0, 0],
+        high: [1, 0, 0],
+        value: 8,
+    };
+    let row = Row { steps: 1, ..THREE };
+    let case = Case {
+        fills: Items::of(vec![in alloc; drop]?),
+        ..row.case(alloc, Vec::new(alloc), Vec::new(alloc))?
+    };
+    let world = driven(&rt, alloc, case)?;
+    let told = [
+        tell(0, 1, 8),
+        tell(1, 0, 0),
+        tell(2, 1, 0),
+        recv(0, 1),
+        tell(1, 2, 0),
+        recv(2, 1),
+        copy(0, 1, 7),
+        recv(1, 0),
+        copy(2, 0, 0),
+        tell(0, 2, 0),
+        recv(1, 2),
+        tell(2, 1, 0),
+        tell(1, 0, 0),
+        recv(2, 0),
+        recv(0, 1),
+        copy(1, 2, 1),
+        recv(2, 1),
+        recv(0, 2),
+        recv(1, 0),
+        done(2),
+        done(0),
+        recv(1, 2),
+        done(1),
+        Event::Leave { rank: 2 },
+        Event::Leave { rank: 0 },
+        Event::Leave { rank: 1 },
+    ];
+    assert_eq!(rt; world.journal(), told.as_slice());
+    Ok(())
+}
+
+// Rank 1 dies once it has arrived. Each root tells the other the four cells at their common face, 80 of the first. A step
+// makes 80 70 of four rows of 80 80, with a sum of 600, and 10 0 of four rows of 0 0, with a sum of 40.
 #[test]
 fn a_death_its_restore_and_its_repair(rt: HostRuntime) -> Result<(), Fail> {
     let alloc = rt.alloc();
@@ -216,12 +274,12 @@ fn a_death_its_restore_and_its_repair(rt: HostRuntime) -> Result<(), Fail> {
     let row = Row { steps: 1, ..TWO };
     let world = driven(&rt, alloc, row.case(alloc, dies, order)?)?;
     let told = [
-        send(0, 1, 640),
-        send(1, 0, 0),
+        tell(0, 1, 320),
+        tell(1, 0, 0),
         recv(0, 1),
         recv(1, 0),
-        send(0, 1, 600),
-        send(1, 0, 40),
+        copy(0, 1, 600),
+        copy(1, 0, 40),
         recv(0, 1),
         recv(1, 0),
         done(1),
@@ -288,7 +346,7 @@ fn a_repair_between_two_deaths_saves_the_run(rt: HostRuntime) -> Result<(), Fail
     let alloc = rt.alloc();
     let dies = vec![in alloc; (0, 0), (1, 10)]?;
     let world = driven(&rt, alloc, THREE.case(alloc, dies, Vec::new(alloc))?)?;
-    expect_course(&rt, &world, 2, 31, [5, 1, 2]);
+    expect_course(&rt, &world, 2, 33, [5, 1, 2]);
     expect_three_leaves(&rt, alloc, &world)?;
     Ok(())
 }
@@ -303,7 +361,7 @@ fn a_repair_comes_before_the_steps(rt: HostRuntime) -> Result<(), Fail> {
         ..THREE.case(alloc, dies, Vec::new(alloc))?
     };
     let world = driven(&rt, alloc, case)?;
-    expect_course(&rt, &world, 2, 25, [4, 0, 2]);
+    expect_course(&rt, &world, 2, 26, [4, 0, 2]);
     expect_three_leaves(&rt, alloc, &world)?;
     Ok(())
 }
@@ -314,7 +372,7 @@ fn a_commit_after_the_repair_is_gone_back_to(rt: HostRuntime) -> Result<(), Fail
     let alloc = rt.alloc();
     let dies = vec![in alloc; (0, 0), (1, 14)]?;
     let world = driven(&rt, alloc, THREE.case(alloc, dies, Vec::new(alloc))?)?;
-    expect_course(&rt, &world, 2, 37, [5, 1, 2]);
+    expect_course(&rt, &world, 2, 39, [5, 1, 2]);
     expect_three_leaves(&rt, alloc, &world)?;
     Ok(())
 }

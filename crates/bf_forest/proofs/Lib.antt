@@ -1,6 +1,7 @@
-pub mod PlaceSteps
-pub mod Stepping
-pub mod Readying
+pub mod StartSteps
 pub mod OpeningSteps
-mod StartSteps
-pub mod Finishing
+pub mod PeerSteps
+pub mod StripSteps
+pub mod GroupSteps
+pub mod PointSteps
+pub mod StepSteps

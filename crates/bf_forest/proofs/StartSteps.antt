@@ -8,7 +8,7 @@ use Rattle.bf_id.specs.Shape.{root_count}
 use Rattle.bf_case.specs.declared.case.Case.{Case}
 use Rattle.bf_case.specs.Case.{first_rank_of}
 use Rattle.bf_buddy.proofs.MemberLemmas.{all_members, any_range, range_any, range_within}
-use Rattle.bf_parts.proofs.PassedLemmas.{passed_below, passed_start, passed_stays, passed_goes, passed_end}
+use Rattle.bf_lemmas.proofs.Passes.{passed_below, passed_start, passed_stays, passed_goes, passed_end}
 use Rattle.bf_forest.specs.Starts.{starts}
 
 -- whether one of the roots below one begins at a rank

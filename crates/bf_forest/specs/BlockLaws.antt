@@ -1,67 +1,72 @@
--- The model's blocks of a time: they rise and tile the domain, a rank that knows all of them steps its own, and those of the beginning are the roots.
-use Rattle.std.proofs.Common.{◌≡◌, ℕ, zero, suc, ◌+◌, ◌*◌, ◌/◌, ◌<◌, ◌≤◌, Bool, true, false, List, [], ◌∷◌, ◌++◌, flat_map, length, get_or, map, Contains, refl, sym, ap, subst, ◌∙◌, arith, All}
-use Rattle.std.specs.Prelude.{◌==◌, ◌&&◌, ◌||◌, not, filter, Some, slice_index_or}
+-- The model's blocks of a time with their links: they rise and tile the domain, and those of the beginning are the roots.
+use Rattle.std.proofs.Common.{◌≡◌, ℕ, zero, suc, ◌+◌, ◌*◌, ◌/◌, ◌<◌, ◌≤◌, Bool, true, false, List, [], ◌∷◌, length, get_or, map, Contains, refl, sym, ap, subst, ◌∙◌, arith, All}
+use Rattle.std.specs.Prelude.{◌==◌, filter, Some, slice_index, slice_index_or, IsTrue}
 use Rattle.std.specs.List.{count_by, range_with_len, list_any}
 use Rattle.std.specs.Ordering.{is_lt, ordering_reverse}
 use Rattle.std.proofs.Math.Nat.{div-lt_iff_lt-mul, mul-lt-mul_of_pos_left, mul-le-mul}
-use Rattle.std.proofs.lemmas.Bool.{eqb-true, eq-eqb, false_from_ne_true}
-use Rattle.std.proofs.lemmas.List.FromFn.{length-map-range_with_len}
-use Rattle.std.proofs.lemmas.List.Elements.{All-nil, All-head, All-tail, All-append, All-map, All-filter, All-contains, Contains-append_left, Contains-append_right}
-use Rattle.bf_buddy.specs.Members.{is_member, without}
+use Rattle.std.proofs.lemmas.Bool.{false_from_ne_true}
+use Rattle.std.proofs.lemmas.List.FromFn.{length-map-range_with_len, get_or-map-range_with_len}
+use Rattle.std.proofs.lemmas.List.Kept.{AllPairs-filter}
+use Rattle.std.proofs.lemmas.List.Elements.{All-map, All-filter, All-contains}
+use Rattle.bf_buddy.specs.Members.{is_member}
 use Rattle.bf_id.specs.declared.shape.Shape.{Shape}
 use Rattle.bf_id.specs.Cube.{Voxel, Holds, holds}
 use Rattle.bf_id.specs.Shape.{IsShape, InDomain, root_count}
-use Rattle.bf_id.specs.Id.{BlockId, box_of, id_cmp, id_eq, root_id}
+use Rattle.bf_id.specs.Id.{BlockId, box_of, id_cmp, id_eq, root_id, root_ids, touches, InShape}
 use Rattle.bf_id.specs.Tiling.{Tiles}
 use Rattle.bf_id.specs.Walk.{IsBefore}
 use Rattle.bf_id.proofs.Boxes.{id_eq_is_equal}
 use Rattle.bf_id.proofs.Rising.{id_cmp_total}
-use Rattle.bf_id.proofs.Tilings.{Contains-flat_map, Contains-from_fn, Contains-head, Contains-tail}
 use Rattle.bf_cells.specs.Grid.{Grid, grid_with}
 use Rattle.bf_case.specs.declared.case.Case.{Case}
 use Rattle.bf_case.specs.Case.{first_rank_of, IsValid}
 use Rattle.bf_case.specs.Map.{Leaf, IsMap, cells_at, ids_of}
 use Rattle.bf_case.specs.Model.{model}
-use Rattle.bf_case.specs.Stencil.{stencil}
-use Rattle.bf_case.proofs.ListLemmas.{Contains-map, Contains-map_cases}
+use Rattle.bf_case.proofs.ListLemmas.{Contains-map_cases}
 use Rattle.bf_case.proofs.LookupLemmas.{cells_at-leaf, cells_at-initial}
 use Rattle.bf_case.proofs.MapLemmas.{IsRootMap-model, ids_of-initial, ids_of-stencil}
 use Rattle.bf_case.proofs.ModelLemmas.{balanced-model}
 use Rattle.bf_case.proofs.PlaceLemmas.{one_place, one_leaf_holds}
 use Rattle.bf_case.proofs.RootModel.{model_next}
-use Rattle.bf_case.proofs.TestLemmas.{Contains-filter, holds_decides}
-use Rattle.bf_block.specs.Block.{BlockValue, initial_block, before_regrid}
-use Rattle.bf_block.specs.Kinds.{block_kind}
-use Rattle.bf_block.specs.Runs.{never_refines, CanRun}
+use Rattle.bf_case.proofs.TestLemmas.{Contains-filter_cases, holds_decides}
+use Rattle.bf_block.specs.declared.point.Point.{Point}
+use Rattle.bf_block.specs.Block.{BlockValue, initial_block, before_regrid, map_at}
+use Rattle.bf_links.specs.declared.link.Link.{Link}
+use Rattle.bf_links.specs.Links.{link_to, links_of, remapped}
+use Rattle.bf_links.specs.Roots.{root_owner}
+use Rattle.bf_links.proofs.LinkLemmas.{links_alike}
+use Rattle.bf_msg.specs.declared.linked_block.LinkedBlock.{LinkedBlock}
+use Rattle.bf_msg.specs.LinkedBlocks.{linked_kind, IsOwnedAmong}
+use Rattle.bf_forest.specs.Cases.{KeepsRoots}
 use Rattle.bf_parts.specs.Counts.{once, count_cons}
 use Rattle.bf_parts.specs.Leaves.{AreLeaves, AreAmong, part_of, is_filled}
-use Rattle.bf_lemmas.proofs.Lists.{All-from_Contains, any_mapped, filter_mapped, map_each, map_twice}
-use Rattle.std.proofs.lemmas.List.{get_or_default}
-use Rattle.bf_buddy.proofs.MemberLemmas.{all_members, range_within, range_has, member_filter}
-use Rattle.bf_forest.specs.Gathered.{cells_or, advanced, gathered, stepped_among}
-use Rattle.bf_forest.specs.Meanings.{first_blocks}
-use Rattle.bf_forest.specs.ModelBlocks.{block_at, blocks_at, first_home, IsBlockAt}
+use Rattle.bf_lemmas.proofs.Lists.{All-from_Contains, any_mapped, filter_mapped, map_twice}
+use Rattle.std.proofs.lemmas.List.{get_or_default, get_or-map, length-map}
+use Rattle.bf_buddy.proofs.MemberLemmas.{all_members, range_within, range_has}
+use Rattle.bf_forest.specs.ModelBlocks.{cells_or, block_at, linked_at, blocks_at, first_home, IsBlockAt}
+use Rattle.bf_forest.specs.Opening.{first_owners}
+use Rattle.bf_forest.specs.Ready.{IsLinkedIn, AreOrdered}
 use Rattle.bf_forest.specs.Starts.{starts}
-use Rattle.bf_forest.specs.StepLaws.{HasRoots, gathered_is_model}
 
 -- every map of the model is one
-pub model_map : (c : Case) (time : ℕ) → CanRun c → IsMap c.roots c.side (model c time)
+pub model_map : (c : Case) (time : ℕ) → KeepsRoots c → IsMap c.roots c.side (model c time)
 model_map c time runs = (balanced-model c time runs.valid).map
 
 -- LEAVES
 precedes : (i j : BlockId) → IsBefore i j → (is_lt (id_cmp i j) ≡ true) × (is_lt (id_cmp j i) ≡ false)
 precedes i j before = (ap is_lt before, ap is_lt (id_cmp_total.antisymm j i ∙ ap ordering_reverse before))
 
-pub are_leaves : (c : Case) (time : ℕ) → CanRun c → AreLeaves block_kind (blocks_at c time)
+pub are_leaves : (c : Case) (time : ℕ) → KeepsRoots c → AreLeaves linked_kind (blocks_at c time)
 unfolding blocks_at
 are_leaves c time runs = record {
-  remapped = λ f owner key. refl;
+  remapped = λ f owner key. ap (λ (links : List Link). record { block = block_at c time key; links = links })
+      (map_twice (remapped f) (link_to owner) (link_to (λ i. f (owner i))) (λ i. refl) (filter (touches c.roots key) (ids_of (model c time))));
   rising = λ owner i j d below within.
       precedes (slice_index_or (ids_of (model c time)) i d) (slice_index_or (ids_of (model c time)) j d) ((model_map c time runs).rising i j d below within);
 }
 
 -- a leaf's cells are found
-leaf_cells : (c : Case) (time : ℕ) (i : BlockId) → CanRun c → Contains (ids_of (model c time)) i → (g : Grid) × (cells_at (model c time) i ≡ Some g)
+leaf_cells : (c : Case) (time : ℕ) (i : BlockId) → KeepsRoots c → Contains (ids_of (model c time)) i → (g : Grid) × (cells_at (model c time) i ≡ Some g)
 leaf_cells c time i runs has =
     let leaf = Contains-map_cases (λ (leaf : Leaf). leaf.0) (model c time) i has in
     (leaf.0.1, cells_at-leaf (model c time) i leaf.0.1 (model_map c time runs).rising (subst (λ (j : BlockId). Contains (model c time) (j, leaf.0.1)) (sym leaf.2) leaf.1))
@@ -77,111 +82,75 @@ some_root shape is =
     let all : 1 * 1 ≤ shape.nx * (shape.ny * shape.nz) = mul-le-mul x one in
     omega (arith, all)
 
-pub some_leaf : (c : Case) (time : ℕ) → CanRun c → 0 < length (blocks_at c time).keys
+pub some_leaf : (c : Case) (time : ℕ) → KeepsRoots c → 0 < length (blocks_at c time).keys
 unfolding blocks_at
 some_leaf c time runs =
     let some : 0 < root_count c.roots = some_root c.roots runs.valid.sized.shape in
-    omega (arith, some, ap length (IsRootMap-model c time runs.valid (never_refines runs)).roots, length-map-range_with_len root_id 0 (root_count c.roots))
+    omega (arith, some, ap length (IsRootMap-model c time runs.valid runs.never).roots, length-map-range_with_len root_id 0 (root_count c.roots))
 
 -- a leaf's block is the model's
-pub block_is : (c : Case) (time : ℕ) (i : BlockId) → CanRun c → Contains (ids_of (model c time)) i → IsBlockAt c time (block_at c time i)
+pub block_is : (c : Case) (time : ℕ) (i : BlockId) → KeepsRoots c → Contains (ids_of (model c time)) i → IsBlockAt c time (block_at c time i)
 block_is c time i runs has =
     let found = leaf_cells c time i runs has in
-    record { of_case = refl; at = refl; models = record { leaf = found.1 ∙ ap (λ o. Some (cells_or o (grid_with 0 []))) (sym found.1) } }
+    record {
+      of_case = refl;
+      at = refl;
+      models = record { runs = record { valid = runs.valid }; leaf = found.1 ∙ ap (λ o. Some (cells_or o (grid_with 0 []))) (sym found.1) };
+    }
 
-pub part_are : (c : Case) (time : ℕ) (owner : BlockId → ℕ) (rank : ℕ) → CanRun c → All (IsBlockAt c time) (part_of (blocks_at c time) owner rank)
+-- and the model has a block's cells
+pub model_cells : (c : Case) (time : ℕ) (b : BlockValue) → IsBlockAt c time b → cells_at (model c time) b.id ≡ Some b.cells
+model_cells c time b is =
+    subst (λ (p : Point). cells_at (map_at c p) b.id ≡ Some b.cells) is.at
+    (subst (λ (k : Case). cells_at (map_at k b.point) b.id ≡ Some b.cells) is.of_case is.models.leaf)
+
+-- each of a rank's part is so, as each of its leaves is
+pub part_each : (P : LinkedBlock → Type 0) (c : Case) (time : ℕ) (owner : BlockId → ℕ) (rank : ℕ)
+    → ((i : BlockId) → Contains (ids_of (model c time)) i → (owner i == rank) ≡ true → P (linked_at c time owner i)) → All P (part_of (blocks_at c time) owner rank)
 unfolding part_of blocks_at
-part_are c time owner rank runs =
-    All-map (IsBlockAt c time) (block_at c time) (filter (λ i. owner i == rank) (ids_of (model c time)))
-    (All-filter (λ i. owner i == rank) (λ i. IsBlockAt c time (block_at c time i)) (ids_of (model c time))
-    (All-from_Contains (λ i. IsBlockAt c time (block_at c time i)) (ids_of (model c time)) (λ i has. block_is c time i runs has)))
+part_each P c time owner rank each =
+    All-map P (linked_at c time owner) (filter (λ i. owner i == rank) (ids_of (model c time)))
+    (All-from_Contains (λ i. P (linked_at c time owner i)) (filter (λ i. owner i == rank) (ids_of (model c time))) (λ i has.
+    let its = Contains-filter_cases (λ i. owner i == rank) (ids_of (model c time)) i has in each i its.0 its.1))
 
--- a leaf's block is in its owner's part
-part_has : (c : Case) (time : ℕ) (owner : BlockId → ℕ) (rank : ℕ) (i : BlockId) → Contains (ids_of (model c time)) i → (owner i == rank) ≡ true
-    → Contains (part_of (blocks_at c time) owner rank) (block_at c time i)
+pub part_are : (c : Case) (time : ℕ) (owner : BlockId → ℕ) (rank : ℕ) → KeepsRoots c → All (λ b. IsBlockAt c time b.block) (part_of (blocks_at c time) owner rank)
+part_are c time owner rank runs = part_each (λ b. IsBlockAt c time b.block) c time owner rank (λ i has its. block_is c time i runs has)
+
+-- they lie in the domain, and so do all leaves that they are linked with
+pub part_inside : (c : Case) (time : ℕ) (owner : BlockId → ℕ) (rank : ℕ) → KeepsRoots c → All (IsLinkedIn c.roots) (part_of (blocks_at c time) owner rank)
+part_inside c time owner rank runs = part_each (IsLinkedIn c.roots) c time owner rank (λ i has its. record {
+  own = All-contains (InShape c.roots) (ids_of (model c time)) i (model_map c time runs).in_shape has;
+  links = All-map (λ (link : Link). InShape c.roots link.id) (link_to owner) (filter (touches c.roots i) (ids_of (model c time)))
+      (All-filter (touches c.roots i) (InShape c.roots) (ids_of (model c time)) (model_map c time runs).in_shape);
+})
+
+-- their owners are ranks
+pub part_owned : (c : Case) (time : ℕ) (members : List ℕ) (owner : BlockId → ℕ) (rank : ℕ) → AreAmong members (blocks_at c time) owner
+    → All (IsOwnedAmong members) (part_of (blocks_at c time) owner rank)
+unfolding blocks_at
+part_owned c time members owner rank owned = part_each (IsOwnedAmong members) c time owner rank (λ i has its.
+    All-map (λ (link : Link). IsTrue (is_member members link.owner)) (link_to owner) (filter (touches c.roots i) (ids_of (model c time)))
+    (All-filter (touches c.roots i) (λ j. is_member members (owner j) ≡ true) (ids_of (model c time)) owned))
+
+-- and they rise
+pub part_ordered : (c : Case) (time : ℕ) (owner : BlockId → ℕ) (rank : ℕ) → KeepsRoots c → AreOrdered (part_of (blocks_at c time) owner rank)
 unfolding part_of blocks_at
-part_has c time owner rank i has its =
-    Contains-map (block_at c time) (filter (λ i. owner i == rank) (ids_of (model c time))) i (Contains-filter (λ i. owner i == rank) (ids_of (model c time)) i has its)
-
--- WHAT A RANK KNOWS in a step: its own blocks and those of all others
-abbrev pub known_to : (c : Case) → (time : ℕ) → (owner : BlockId → ℕ) → (members : List ℕ) → (rank : ℕ) → List BlockValue
-known_to c time owner members rank = part_of (blocks_at c time) owner rank ++ flat_map (part_of (blocks_at c time) owner) (without members rank)
-
-module _ (c : Case) (time : ℕ) (runs : CanRun c) (owner : BlockId → ℕ) (members : List ℕ) (rank : ℕ) where
-  pub known_are : All (IsBlockAt c time) (known_to c time owner members rank)
-  known_are = All-append (IsBlockAt c time) (part_of (blocks_at c time) owner rank) (flat_map (part_of (blocks_at c time) owner) (without members rank))
-      (part_are c time owner rank runs) (all_flat (without members rank))
-    where
-      all_flat : (peers : List ℕ) → All (IsBlockAt c time) (flat_map (part_of (blocks_at c time) owner) peers)
-      all_flat [] = All-nil (IsBlockAt c time)
-      all_flat (peer ∷ peers) = All-append (IsBlockAt c time) (part_of (blocks_at c time) owner peer) (flat_map (part_of (blocks_at c time) owner) peers) (part_are c time owner peer runs) (all_flat peers)
-
-  member_contains : (ranks : List ℕ) (other : ℕ) → is_member ranks other ≡ true → Contains ranks other
-  member_contains [] other is_in = absurd (cc)
-  member_contains (member ∷ ranks) other is_in = at (member_contains ranks other) (member == other) refl is_in
-    where
-      at : (is_member ranks other ≡ true → Contains ranks other) → (b : Bool) → (member == other) ≡ b → (b || is_member ranks other) ≡ true → Contains (member ∷ ranks) other
-      at later true same here = let e : member ≡ other = eqb-true member other same in rw (sym e) (Contains-head member ranks)
-      at later false differs there = Contains-tail member ranks other (later there)
-
-  known_leaf : (i : BlockId) → Contains (ids_of (model c time)) i → is_member members (owner i) ≡ true → Contains (known_to c time owner members rank) (block_at c time i)
-  known_leaf i has is_in = at (owner i == rank) refl
-    where
-      own : List BlockValue
-      own = part_of (blocks_at c time) owner rank
-
-      others : List BlockValue
-      others = flat_map (part_of (blocks_at c time) owner) (without members rank)
-
-      at : (b : Bool) → (owner i == rank) ≡ b → Contains (own ++ others) (block_at c time i)
-      at true its = Contains-append_left own others (block_at c time i) (part_has c time owner rank i has its)
-      at false other =
-          let both : (is_member members (owner i) && not (owner i == rank)) ≡ true = rw (is_in, other) refl in
-          Contains-append_right own others (block_at c time i)
-          (Contains-flat_map (part_of (blocks_at c time) owner) (without members rank) (owner i) (block_at c time i)
-          (member_contains (without members rank) (owner i) (member_filter (λ member. not (member == rank)) members (owner i) ∙ both))
-          (part_has c time owner (owner i) i has (eq-eqb (owner i) (owner i) refl)))
-
-  -- each root is among them
-  pub known_roots : AreAmong members (blocks_at c time) owner → HasRoots c (known_to c time owner members rank)
-  unfolding blocks_at
-  known_roots owned k below =
-      let has : Contains (ids_of (model c time)) (root_id k) =
-      subst (λ (ids : List BlockId). Contains ids (root_id k)) (sym (IsRootMap-model c time runs.valid (never_refines runs)).roots) (Contains-from_fn root_id (root_count c.roots) k below) in
-      (block_at c time (root_id k), known_leaf (root_id k) has (All-contains (λ i. is_member members (owner i) ≡ true) (ids_of (model c time)) (root_id k) owned has), refl)
+part_ordered c time owner rank runs = λ j k d before within.
+    let item : BlockId → LinkedBlock = linked_at c time owner in
+    let ids : List BlockId = filter (λ i. owner i == rank) (ids_of (model c time)) in
+    let in_k : k < length ids = let long = length-map ids item in omega (arith, long, within) in
+    let in_j : j < length ids = omega (arith, before, in_k) in
+    subst (λ (b : LinkedBlock). IsBefore (get_or (map item ids) j d).block.id b.block.id) (sym (get_or-map item ids k d.block.id d in_k))
+    (subst (λ (a : LinkedBlock). IsBefore a.block.id (get_or ids k d.block.id)) (sym (get_or-map item ids j d.block.id d in_j))
+    (AllPairs-filter IsBefore (λ i. owner i == rank) (ids_of (model c time)) (model_map c time runs).rising j k d.block.id before in_k))
 
 -- A STEP leads from the blocks of a time to those of the next
-pub ids_next : (c : Case) (time : ℕ) → CanRun c → ids_of (model c (time + 1)) ≡ ids_of (model c time)
-ids_next c time runs = ap ids_of (model_next c time runs.valid (never_refines runs)) ∙ ids_of-stencil c.roots c.side (model c time)
+pub ids_next : (c : Case) (time : ℕ) → KeepsRoots c → ids_of (model c (time + 1)) ≡ ids_of (model c time)
+ids_next c time runs = ap ids_of (model_next c time runs.valid runs.never) ∙ ids_of-stencil c.roots c.side (model c time)
 
-pub owned_next : (c : Case) (time : ℕ) (members : List ℕ) (owner : BlockId → ℕ) → CanRun c → AreAmong members (blocks_at c time) owner → AreAmong members (blocks_at c (time + 1)) owner
+pub owned_next : (c : Case) (time : ℕ) (members : List ℕ) (owner : BlockId → ℕ) → KeepsRoots c → AreAmong members (blocks_at c time) owner → AreAmong members (blocks_at c (time + 1)) owner
 unfolding blocks_at
 owned_next c time members owner runs owned = subst (λ (ids : List BlockId). All (λ i. is_member members (owner i) ≡ true) ids) (sym (ids_next c time runs)) owned
-
-advanced_is : (c : Case) (time : ℕ) (i : BlockId) → CanRun c → Contains (ids_of (model c time)) i → advanced (model c (time + 1)) (block_at c time i) ≡ block_at c (time + 1) i
-advanced_is c time i runs has =
-    let found = leaf_cells c (time + 1) i runs (subst (λ (ids : List BlockId). Contains ids i) (sym (ids_next c time runs)) has) in
-    let with : Grid → BlockValue = λ g. record { case = c; point = before_regrid (time + 1); id = i; cells = g } in
-    ap (λ o. with (cells_or o (block_at c time i).cells)) found.1 ∙ ap (λ o. with (cells_or o (grid_with 0 []))) (sym found.1)
-
-advanced_all : (c : Case) (time : ℕ) (ids : List BlockId) → All (λ i. advanced (model c (time + 1)) (block_at c time i) ≡ block_at c (time + 1) i) ids
-    → map (advanced (model c (time + 1))) (map (block_at c time) ids) ≡ map (block_at c (time + 1)) ids
-advanced_all c time [] each = refl
-advanced_all c time (i ∷ ids) each =
-    ap (λ (b : BlockValue). b ∷ map (advanced (model c (time + 1))) (map (block_at c time) ids)) (All-head (λ i. advanced (model c (time + 1)) (block_at c time i) ≡ block_at c (time + 1) i) i ids each)
-    ∙ ap (λ (bs : List BlockValue). block_at c (time + 1) i ∷ bs) (advanced_all c time ids (All-tail (λ i. advanced (model c (time + 1)) (block_at c time i) ≡ block_at c (time + 1) i) i ids each))
-
-pub stepped_part : (c : Case) (time : ℕ) (known : List BlockValue) → CanRun c → All (IsBlockAt c time) known → HasRoots c known → (owner : BlockId → ℕ) (rank : ℕ)
-    → stepped_among c known (part_of (blocks_at c time) owner rank) ≡ part_of (blocks_at c (time + 1)) owner rank
-unfolding stepped_among part_of blocks_at
-stepped_part c time known runs are has owner rank =
-    let after : stencil c.roots c.side (gathered c known) ≡ model c (time + 1) =
-    ap (stencil c.roots c.side) (gathered_is_model c time known runs are has) ∙ sym (model_next c time runs.valid (never_refines runs)) in
-    ap (λ (leaves : List Leaf). map (advanced leaves) (map (block_at c time) (filter (λ i. owner i == rank) (ids_of (model c time))))) after
-    ∙ advanced_all c time (filter (λ i. owner i == rank) (ids_of (model c time)))
-    (All-filter (λ i. owner i == rank) (λ i. advanced (model c (time + 1)) (block_at c time i) ≡ block_at c (time + 1) i) (ids_of (model c time))
-    (All-from_Contains (λ i. advanced (model c (time + 1)) (block_at c time i) ≡ block_at c (time + 1) i) (ids_of (model c time)) (λ i there. advanced_is c time i runs there)))
-    ∙ ap (λ (ids : List BlockId). map (block_at c (time + 1)) (filter (λ i. owner i == rank) ids)) (sym (ids_next c time runs))
 
 -- ONE LEAF passes a test that one place passes
 count_none : {X : Type 0} (test : X → Bool) (xs : List X) → ((j : ℕ) (d : X) → j < length xs → test (get_or xs j d) ≡ false) → count_by test xs ≡ 0
@@ -201,7 +170,7 @@ count_one test (x ∷ xs) (suc k) e within passes alone =
     ∙ ap (λ n. 0 + n) (count_one test xs k e (omega arith) passes (λ j d below also. let same : suc j ≡ suc k = alone (suc j) d (omega arith) also in omega arith))
 
 -- one leaf has each unit of the domain
-pub one_holds : (c : Case) (time : ℕ) (unit : Voxel) → CanRun c → InDomain c.roots unit → count_by (λ i. holds (box_of c.roots i) unit) (ids_of (model c time)) ≡ 1
+pub one_holds : (c : Case) (time : ℕ) (unit : Voxel) → KeepsRoots c → InDomain c.roots unit → count_by (λ i. holds (box_of c.roots i) unit) (ids_of (model c time)) ≡ 1
 one_holds c time unit runs inside =
     let ids : List BlockId = ids_of (model c time) in
     let tiles : Tiles c.roots ids = (model_map c time runs).tiling in
@@ -215,7 +184,7 @@ one_holds c time unit runs inside =
     ((holds_decides (box_of c.roots (get_or ids j d)) unit).0 passes) there)
 
 -- one leaf has the id of a leaf
-pub one_id : (c : Case) (time : ℕ) (k : ℕ) (e : BlockId) → CanRun c → k < length (ids_of (model c time)) → count_by (λ i. id_eq i (get_or (ids_of (model c time)) k e)) (ids_of (model c time)) ≡ 1
+pub one_id : (c : Case) (time : ℕ) (k : ℕ) (e : BlockId) → KeepsRoots c → k < length (ids_of (model c time)) → count_by (λ i. id_eq i (get_or (ids_of (model c time)) k e)) (ids_of (model c time)) ≡ 1
 one_id c time k e runs below =
     let ids : List BlockId = ids_of (model c time) in
     count_one (λ i. id_eq i (get_or ids k e)) ids k e below ((id_eq_is_equal (get_or ids k e) (get_or ids k e)).1 refl)
@@ -232,19 +201,34 @@ first_ids : (c : Case) → ids_of (model c 0) ≡ map root_id (range_with_len 0 
 unfolding model
 first_ids c = ids_of-initial c
 
+-- a root as it is made, with links to the roots by their owners
+pub first_linked : (c : Case) (root : ℕ) (b : BlockValue) (links : List Link) → IsValid c → root < root_count c.roots → b ≡ initial_block c root
+    → links ≡ links_of c.roots (root_ids c.roots) (root_owner (first_owners c)) (root_id root)
+    → ◌≡◌ {A = LinkedBlock} (record { block = b; links = links }) (linked_at c 0 (first_home c) (root_id root))
+unfolding first_owners
+first_linked c root b links valid below made linked =
+    ap (λ (v : BlockValue). record { block = v; links = links }) (made ∙ sym (first_at c root valid below))
+    ∙ ap (λ (ls : List Link). record { block = block_at c 0 (root_id root); links = ls })
+    (linked ∙ alike c (root_id root) ∙ ap (λ (ids : List BlockId). links_of c.roots ids (first_home c) (root_id root)) (sym (first_ids c)))
+  where
+    alike : (c : Case) (i : BlockId)
+        → links_of c.roots (root_ids c.roots) (root_owner (map (first_rank_of c) (range_with_len 0 (root_count c.roots)))) i ≡ links_of c.roots (root_ids c.roots) (first_home c) i
+    alike c i = links_alike c.roots (root_ids c.roots) (root_owner (map (first_rank_of c) (range_with_len 0 (root_count c.roots)))) (first_home c) i
+        (All-map (λ j. root_owner (map (first_rank_of c) (range_with_len 0 (root_count c.roots))) j ≡ first_home c j) root_id (range_with_len 0 (root_count c.roots))
+        (all_members (λ k. slice_index (map (first_rank_of c) (range_with_len 0 (root_count c.roots))) k ≡ first_rank_of c k) (range_with_len 0 (root_count c.roots))
+        (λ k is_in.
+        let low : k < 0 + root_count c.roots = range_within 0 (root_count c.roots) k is_in in
+        get_or-map-range_with_len (first_rank_of c) 0 (root_count c.roots) k k 0 (omega arith) (omega arith))))
+
 -- the roots that begin at a rank are its part of the leaves of the beginning
-pub first_part : (c : Case) (rank : ℕ) → IsValid c → first_blocks c rank ≡ part_of (blocks_at c 0) (first_home c) rank
-unfolding first_blocks part_of blocks_at
-first_part c rank valid =
-    let roots : List ℕ = range_with_len 0 (root_count c.roots) in
-    let own : List ℕ = filter (λ root. first_rank_of c root == rank) roots in
-    map_each (initial_block c) (λ root. block_at c 0 (root_id root)) own
-    (All-filter (λ root. first_rank_of c root == rank) (λ root. initial_block c root ≡ block_at c 0 (root_id root)) roots
-    (all_members (λ root. initial_block c root ≡ block_at c 0 (root_id root)) roots
-    (λ root is_in. let low : root < 0 + root_count c.roots = range_within 0 (root_count c.roots) root is_in in sym (first_at c root valid (omega arith)))))
-    ∙ sym (map_twice (block_at c 0) root_id (λ root. block_at c 0 (root_id root)) (λ root. refl) own)
-    ∙ ap (map (block_at c 0)) (sym (filter_mapped (λ i. first_home c i == rank) root_id roots))
-    ∙ ap (λ (ids : List BlockId). map (block_at c 0) (filter (λ i. first_home c i == rank) ids)) (sym (first_ids c))
+pub first_part : (c : Case) (rank : ℕ) → map (λ root. linked_at c 0 (first_home c) (root_id root)) (filter (λ root. first_rank_of c root == rank) (range_with_len 0 (root_count c.roots)))
+    ≡ part_of (blocks_at c 0) (first_home c) rank
+unfolding part_of blocks_at
+first_part c rank =
+    sym (map_twice (linked_at c 0 (first_home c)) root_id (λ root. linked_at c 0 (first_home c) (root_id root)) (λ root. refl)
+    (filter (λ root. first_rank_of c root == rank) (range_with_len 0 (root_count c.roots))))
+    ∙ ap (map (linked_at c 0 (first_home c))) (sym (filter_mapped (λ i. first_home c i == rank) root_id (range_with_len 0 (root_count c.roots))))
+    ∙ ap (λ (ids : List BlockId). map (linked_at c 0 (first_home c)) (filter (λ i. first_home c i == rank) ids)) (sym (first_ids c))
 
 -- the first ranks of the roots are ranks of the run
 first_below : (root ranks count : ℕ) → 1 ≤ ranks → root < count → root * ranks / count < ranks

@@ -11,10 +11,10 @@ use Rattle.bf_id.specs.Cube.{Voxel, holds}
 use Rattle.bf_id.specs.Id.{BlockId}
 use Rattle.bf_id.specs.Shape.{InDomain, root_edge}
 use Rattle.bf_case.specs.declared.case.Case.{Case}
-use Rattle.bf_block.specs.declared.setup.Setup.{Setup}
-use Rattle.bf_block.specs.Kinds.{block_kind}
-use Rattle.bf_block.specs.Runs.{CanRun}
-use Rattle.bf_block.specs.Setup.{case_of, every_setup_runs}
+use Rattle.bf_forest.specs.declared.setup.Setup.{Setup}
+use Rattle.bf_msg.specs.LinkedBlocks.{linked_kind}
+use Rattle.bf_forest.specs.Cases.{KeepsRoots}
+use Rattle.bf_forest.specs.Setup.{case_of, every_setup_keeps_roots}
 use Rattle.bf_stages.specs.Stages.{HasPieces}
 use Rattle.bf_forest.specs.declared.stage.Stage.{Stage}
 use Rattle.bf_forest.specs.declared.stage.Stage.TheVariants.{Step, Snapshot, Over}
@@ -32,12 +32,12 @@ in_domain_tells shape v passes =
     below : (a b : ℕ) → nat_lt a b ≡ true → a < b
     below a b is = grind (arith, nat_tests)
 
-leaf_holds : (c : Case) (time : ℕ) (owner : BlockId → ℕ) (unit : Voxel) → CanRun c → in_domain c.roots unit ≡ true
+leaf_holds : (c : Case) (time : ℕ) (owner : BlockId → ℕ) (unit : Voxel) → KeepsRoots c → in_domain c.roots unit ≡ true
     → count_by (λ key. holds (box_in ((blocks_at c time).item owner key)) unit) (blocks_at c time).keys ≡ 1
 unfolding blocks_at
 leaf_holds c time owner unit runs inside = one_holds c time unit runs (in_domain_tells c.roots unit inside)
 
-pub boxes : (setup : Setup) → HasPieces forest forest_staging block_kind setup pieces box_in (λ local. [])
+pub boxes : (setup : Setup) → HasPieces forest forest_staging linked_kind setup pieces box_in (λ local. [])
 boxes setup = record {
   blind = λ f item unit. refl;
   of_local = λ local. sym (append-nil (map box_in local.blocks));
@@ -53,6 +53,6 @@ boxes setup = record {
   where
     at : (stage : Stage) (epoch : Epoch) (owner : BlockId → ℕ) (unit : Voxel) → in_domain (case_of setup).roots unit ≡ true
         → count_by (λ key. holds (box_in ((leaves_in (case_of setup) epoch stage).item owner key)) unit) (leaves_in (case_of setup) epoch stage).keys ≡ 1
-    at (Step time) epoch owner unit within = leaf_holds (case_of setup) time owner unit (every_setup_runs setup) within
-    at Snapshot epoch owner unit within = leaf_holds (case_of setup) epoch.target owner unit (every_setup_runs setup) within
-    at Over epoch owner unit within = leaf_holds (case_of setup) epoch.target owner unit (every_setup_runs setup) within
+    at (Step time) epoch owner unit within = leaf_holds (case_of setup) time owner unit (every_setup_keeps_roots setup) within
+    at Snapshot epoch owner unit within = leaf_holds (case_of setup) epoch.target owner unit (every_setup_keeps_roots setup) within
+    at Over epoch owner unit within = leaf_holds (case_of setup) epoch.target owner unit (every_setup_keeps_roots setup) within

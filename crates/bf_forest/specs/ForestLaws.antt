@@ -1,32 +1,33 @@
 -- The forest keeps the laws of round programs.
-use Rattle.std.proofs.Common.{◌≡◌, ℕ, ◌+◌, ◌-◌, ◌^◌, ◌<◌, ◌≤◌, Bool, true, false, cond, List, [], arith, refl, ap, ◌∙◌}
-use Rattle.std.specs.Prelude.{◌==◌, Some, None}
+use Rattle.std.proofs.Common.{◌≡◌, ℕ, ◌+◌, ◌^◌, ◌<◌, ◌≤◌, Bool, true, false, cond, List, [], arith, refl, ap}
+use Rattle.std.specs.Prelude.{Option, Some, None}
 use Rattle.std.specs.List.{range_with_len}
 use Rattle.std.proofs.lemmas.List.Elements.{All-nil, All-cons, All-weaker, filter_agree}
 use Rattle.bf_lemmas.proofs.Lists.{map_alike}
-use Rattle.bf_buddy.specs.Buddy.{predecessor_of}
 use Rattle.bf_program.specs.declared.epoch.Epoch.{Epoch}
 use Rattle.bf_program.specs.Epochs.{target_of}
 use Rattle.bf_program.specs.Laws.{Laws, KeepsLimits}
 use Rattle.bf_case.specs.declared.case.Case.{Case}
 use Rattle.bf_case.specs.Case.{IsScheduled, IsDeath, IsValid}
-use Rattle.bf_block.specs.declared.setup.Setup.{Setup}
-use Rattle.bf_block.specs.Kinds.{block_kind}
-use Rattle.bf_block.specs.Setup.{case_of, every_setup_runs}
-use Rattle.bf_block.specs.Block.{BlockValue}
+use Rattle.bf_forest.specs.declared.setup.Setup.{Setup}
+use Rattle.bf_msg.specs.declared.linked_block.LinkedBlock.{LinkedBlock}
+use Rattle.bf_msg.specs.LinkedBlocks.{linked_kind}
+use Rattle.bf_forest.specs.Setup.{case_of, every_setup_keeps_roots}
 use Rattle.bf_parts.specs.Leaves.{part_of, is_filled, side_at}
 use Rattle.bf_parts.specs.Sides.{bare}
-use Rattle.bf_stages.specs.Stages.{head_of, IsStaged, HasSides, HasSpans}
-use Rattle.bf_stages.proofs.StageLemmas.{laws_staged}
-use Rattle.bf_forest.specs.declared.local.ForestLocal.{ForestLocal}
-use Rattle.bf_forest.specs.declared.message.ForestMessage.{ForestMessage}
-use Rattle.bf_forest.specs.declared.message.ForestMessage.TheVariants.{Step as StepMessage, Snapshot as SnapshotMessage}
+use Rattle.bf_parts.specs.Views.{View}
+use Rattle.bf_rounds.specs.Delivering.{as_delivery}
+use Rattle.bf_stages.specs.Snapshots.{heard_part}
+use Rattle.bf_stages.specs.Stages.{head_of, IsStaged, KeepsSide, HasSides, HasSpans}
+use Rattle.bf_stages.proofs.StageLemmas.{laws_staged, lens_keeps}
 use Rattle.bf_forest.specs.declared.stage.Stage.{Stage}
 use Rattle.bf_forest.specs.declared.stage.Stage.TheVariants.{Step, Snapshot, Over}
-use Rattle.bf_forest.specs.BlockLaws.{are_leaves, first_part, first_owned, first_filled}
+use Rattle.bf_forest.specs.BlockLaws.{are_leaves, first_owned, first_filled}
 use Rattle.bf_forest.specs.Goods.{IsGood}
-use Rattle.bf_forest.specs.Meanings.{forest, pieces, box_in, with_heard, heard_of, ended, restored, first_blocks, opened}
+use Rattle.bf_forest.specs.Meanings.{forest, pieces, box_in, opened}
+use Rattle.bf_forest.specs.Locals.{view_in, local_with, step_lens}
 use Rattle.bf_forest.specs.ModelBlocks.{blocks_at, first_home}
+use Rattle.bf_forest.specs.Rounds.{step_play, play_of}
 use Rattle.bf_forest.specs.RoundLaws.{has_stages, is_short}
 use Rattle.bf_stages.specs.Plans.{span, rounds_of, stages_of, stage_of}
 use Rattle.bf_stages.proofs.PlanLemmas.{all_stages, first_stage, span_few, span_whole}
@@ -36,36 +37,28 @@ use Rattle.bf_forest.specs.Stages.{forest_plan}
 use Rattle.bf_forest.specs.Staging.{is_made, leaves_in, Runs, forest_staging}
 use Rattle.bf_forest.specs.Starts.{starts}
 
--- calls leave the side of the agreed snapshot
-heard_active : (local : ForestLocal) (msg : ForestMessage) → (heard_of local msg).active ≡ local.active
-unfolding heard_of
-heard_active local (StepMessage blocks) = refl
-heard_active local (SnapshotMessage None) = refl
-heard_active local (SnapshotMessage (Some part)) = refl
-
-ended_active : (stage : Stage) (c : Case) (epoch : Epoch) (local : ForestLocal) → (ended stage c epoch local).active ≡ local.active
-unfolding ended
-ended_active (Step time) c epoch local = refl
-ended_active Snapshot c epoch local = refl
-ended_active Over c epoch local = refl
-
-pub sides : (setup : Setup) → HasSides forest forest_staging block_kind setup
-unfolding restored
+pub sides : (setup : Setup) → HasSides forest forest_staging linked_kind setup
 sides setup = record {
   seen = λ view heard. refl;
   reads = λ local. refl;
   stored = λ locals. refl;
   filled = λ local. refl;
   given = λ side rank epoch. refl;
-  plays = λ epoch stage. record {
-    out = λ local to. refl;
-    hear = λ local peer msg. heard_active local msg;
-    finish = λ local. ended_active stage (case_of setup) epoch local;
-  };
+  plays = λ epoch stage. by epoch stage;
   parcel = λ local. refl;
   keep = λ local. refl;
   restore = λ local rank epoch. refl;
 }
+  where
+    heard : (view : View LinkedBlock) (msg : Option (List LinkedBlock)) → (heard_part view msg).active ≡ view.active
+    heard view None = refl
+    heard view (Some part) = refl
+
+    -- calls leave the side of the agreed snapshot
+    by : (epoch : Epoch) (stage : Stage) → KeepsSide view_in (play_of (case_of setup) epoch stage)
+    by epoch (Step time) = lens_keeps view_in step_lens (as_delivery (step_play (case_of setup).roots)) (λ local n. refl)
+    by epoch Snapshot = record { out = λ local to. refl; hear = λ local peer msg. heard (view_in local) _; finish = λ local. refl }
+    by epoch Over = record { out = λ local to. refl; hear = λ local peer msg. refl; finish = λ local. refl }
 
 -- an epoch begins with the leaves of its time
 begins_with : (c : Case) (epoch : Epoch) → epoch.time + span epoch ≡ epoch.target → leaves_in c epoch (head_of (stages_of forest_plan epoch) Over) ≡ blocks_at c epoch.time
@@ -74,24 +67,14 @@ begins_with c epoch whole =
     (λ none. ap (blocks_at c) (let e : epoch.target ≡ epoch.time = omega (arith, whole, none) in e))
 
 -- the ranks' locals at the opening
-opened_is : (c : Case) (rank : ℕ) → IsValid c → opened c rank ≡ with_heard (record {
+opened_is : (c : Case) (rank : ℕ) → opened c rank ≡ local_with (record {
   rank = rank;
   items = part_of (blocks_at c 0) (first_home c) rank;
   active = side_at 0 (range_with_len 0 c.ranks) c.shift (blocks_at c 0) (first_home c) rank;
   spare = bare;
 }) []
 unfolding opened
-opened_is c rank valid =
-    let from : ℕ = predecessor_of (range_with_len 0 c.ranks) rank c.shift in
-    let local : (own : List BlockValue) (other : List BlockValue) → ForestLocal = λ own other. record {
-      rank = rank;
-      blocks = own;
-      heard = [];
-      active = record { time = 0; homes = range_with_len 0 c.ranks; source = from; own = own; other = cond (from == rank) [] other };
-      spare = bare;
-    } in
-    ap (λ (own : List BlockValue). local own (first_blocks c from)) (first_part c rank valid)
-    ∙ ap (local (part_of (blocks_at c 0) (first_home c) rank)) (first_part c from valid)
+opened_is c rank = refl
 
 pub whole_span : (setup : Setup) (epoch : Epoch) → Runs (case_of setup) epoch → epoch.time + span epoch ≡ epoch.target
 whole_span setup epoch runs = span_whole epoch (is_short setup epoch runs)
@@ -104,10 +87,10 @@ ends_within setup epoch runs = at epoch.restored epoch.time epoch.target (case_o
     at true time target steps interval low is = omega (arith, low, is)
     at false time target steps interval low is = omega (arith, low, is)
 
-pub spans : (setup : Setup) → HasSpans forest forest_staging block_kind setup
+pub spans : (setup : Setup) → HasSpans forest forest_staging linked_kind setup
 spans setup =
     let c : Case = case_of setup in
-    let runs = every_setup_runs setup in
+    let runs = every_setup_keeps_roots setup in
     record {
       first_runs = record { begins = omega arith; ends = refl };
       commit_runs = λ epoch runs goes_on. record { begins = omega (arith, goes_on); ends = refl };
@@ -121,7 +104,7 @@ spans setup =
       keep = λ epoch view owner rank runs goes_on. refl;
       home_of = first_home c;
       housed = first_owned c runs.valid;
-      opening = map_alike (opened c) _ (range_with_len 0 c.ranks) (λ rank. opened_is c rank runs.valid);
+      opening = map_alike (opened c) _ (range_with_len 0 c.ranks) (λ rank. opened_is c rank);
       laid = filter_agree (starts c) (is_filled (blocks_at c 0) (first_home c)) (first_filled c) (range_with_len 0 c.ranks);
     }
 
@@ -144,7 +127,7 @@ few_rounds epoch = let many = rounds_are epoch in let few = span_few epoch in om
 
 limits : (setup : Setup) → KeepsLimits forest setup
 limits setup =
-    let valid : IsValid (case_of setup) = (every_setup_runs setup).valid in
+    let valid : IsValid (case_of setup) = (every_setup_keeps_roots setup).valid in
     let scheduled : IsScheduled (case_of setup) = valid.scheduled in
     record {
       some_rank = scheduled.some_ranks;
@@ -161,4 +144,4 @@ limits setup =
 pub lawful_forest : (setup : Setup) → Laws forest pieces IsGood setup
 unfolding IsGood
 lawful_forest setup =
-    laws_staged forest forest_staging block_kind setup (staged setup) pieces box_in (λ local. []) (sides setup) (spans setup) (has_stages setup) (boxes setup) (limits setup)
+    laws_staged forest forest_staging linked_kind setup (staged setup) pieces box_in (λ local. []) (sides setup) (spans setup) (has_stages setup) (boxes setup) (limits setup)

@@ -1,19 +1,23 @@
 -- Good vectors of the ranks' locals.
-use Rattle.std.specs.Prelude.{◌≡◌, ℕ, nat_lt, List, [], map, AllPairs, if◌then◌else◌}
+use Rattle.std.specs.Prelude.{◌≡◌, ◌↔◌, ℕ, nat_lt, ◌==◌, false, List, [], map, All, AllPairs, Contains, if◌then◌else◌}
 use Rattle.bf_program.specs.declared.epoch.Epoch.{Epoch}
-use Rattle.bf_id.specs.Id.{BlockId}
+use Rattle.bf_id.specs.Id.{BlockId, Touch}
 use Rattle.bf_id.specs.Walk.{IsBefore}
 use Rattle.bf_case.specs.declared.case.Case.{Case}
 use Rattle.bf_case.specs.Map.{ids_of}
 use Rattle.bf_case.specs.Model.{model}
-use Rattle.bf_block.specs.declared.setup.Setup.{Setup}
-use Rattle.bf_parts.specs.Leaves.{AreAmong, part_of, side_at}
+use Rattle.bf_forest.specs.declared.setup.Setup.{Setup}
+use Rattle.bf_links.specs.declared.link.Link.{Link}
+use Rattle.bf_links.specs.Links.{IsLinkOf}
+use Rattle.bf_parts.specs.Leaves.{AreAmong, is_filled, part_of, side_at}
 use Rattle.bf_parts.specs.Sides.{bare}
+use Rattle.bf_parts.specs.Views.{IsHeld}
 use Rattle.bf_rounds.specs.Canonical.{IsTold}
 use Rattle.bf_stages.specs.Stages.{telling_of}
+use Rattle.bf_msg.specs.declared.linked_block.LinkedBlock.{LinkedBlock}
 use Rattle.bf_forest.specs.declared.local.ForestLocal.{ForestLocal}
 use Rattle.bf_forest.specs.Meanings.{forest}
-use Rattle.bf_forest.specs.ModelBlocks.{blocks_at}
+use Rattle.bf_forest.specs.ModelBlocks.{blocks_at, IsBlockAt}
 use Rattle.bf_stages.specs.Plans.{rounds_of}
 use Rattle.bf_forest.specs.Stages.{forest_plan, time_at}
 use Rattle.bf_forest.specs.Staging.{forest_staging}
@@ -22,8 +26,8 @@ use Rattle.bf_forest.specs.Staging.{forest_staging}
 unfoldable pub IsGood : Setup → Epoch → (round : ℕ) → List ForestLocal → Type 0
 IsGood setup epoch round locals = IsTold (telling_of forest forest_staging) setup epoch round locals
 
--- a rank's local: its blocks of the model at the round's time, by rising id; its side of the agreed snapshot, and once all rounds are done its side of
--- the new one
+-- a rank's local: its blocks of the model at the round's time, by rising id, each linked with the leaves that touch it and their owners; its side of the
+-- agreed snapshot, whose links name homes, and once all rounds are done its side of the new one
 abbrev pub local_at : Case → Epoch → (round : ℕ) → (owner home : BlockId → ℕ) → (rank : ℕ) → ForestLocal
 local_at c epoch round owner home rank = record {
   rank = rank;
@@ -33,9 +37,35 @@ local_at c epoch round owner home rank = record {
   spare = if nat_lt round (rounds_of forest_plan epoch) then bare else side_at epoch.target epoch.members c.shift (blocks_at c epoch.target) owner rank;
 }
 
--- the model's ids rise, each leaf has an owner among the members, and each of the agreed snapshot its home, and so are the locals
+-- the model's ids rise, each leaf has an owner among the members, and each of the agreed snapshot its home, of which or of whose buddy some member goes on; and
+-- so are the locals
 pub record AreDealt (c : Case) (epoch : Epoch) (round : ℕ) (owner home : BlockId → ℕ) (locals : List ForestLocal) : Type 0 where
   pub rising : (time : ℕ) → AllPairs IsBefore (ids_of (model c time))
   pub owned : AreAmong epoch.members (blocks_at c (time_at epoch round)) owner
   pub housed : AreAmong epoch.homes (blocks_at c epoch.time) home
+  pub held : IsHeld (is_filled (blocks_at c epoch.time) home) c.shift epoch.homes epoch.members
   pub are : locals ≡ map (local_at c epoch round owner home) epoch.members
+
+-- a block of a rank at a time: it is a leaf of the model with the model's cells, and its links are exactly to the leaves that touch it, each with its owner
+pub record IsLinkedBlock (c : Case) (time : ℕ) (owner : BlockId → ℕ) (rank : ℕ) (b : LinkedBlock) : Type 0 where
+  pub is : IsBlockAt c time b.block
+  pub leaf : Contains (ids_of (model c time)) b.block.id
+  pub owned : owner b.block.id ≡ rank
+  pub links : (link : Link) → Contains b.links link ↔ IsLinkOf c.roots (ids_of (model c time)) owner b.block.id link
+
+-- what a member has: its blocks, and of the agreed snapshot those of which it is the home and the copies of those of the member whose buddy it is, all linked
+pub record HasLinked (c : Case) (epoch : Epoch) (round : ℕ) (owner home : BlockId → ℕ) (local : ForestLocal) : Type 0 where
+  pub blocks : All (IsLinkedBlock c (time_at epoch round) owner local.rank) local.blocks
+  pub own : All (IsLinkedBlock c epoch.time home local.rank) local.active.own
+  pub other : All (IsLinkedBlock c epoch.time home local.active.source) local.active.other
+
+-- two ranks are neighbours: a leaf of the one touches a leaf of the other
+pub record AreNeighbors (c : Case) (time : ℕ) (owner : BlockId → ℕ) (rank other : ℕ) : Type 0 where
+  pub apart : (other == rank) ≡ false
+  pub own : BlockId
+  pub theirs : BlockId
+  pub leaf : Contains (ids_of (model c time)) own
+  pub other_leaf : Contains (ids_of (model c time)) theirs
+  pub owned : owner own ≡ rank
+  pub other_owned : owner theirs ≡ other
+  pub touch : Touch c.roots own theirs

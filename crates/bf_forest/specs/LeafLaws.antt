@@ -4,7 +4,7 @@ use Rattle.std.specs.Prelude.{IsTrue, ◌&&◌, not, nat_lt, Some, None, filter,
 use Rattle.std.specs.List.{count_by}
 use Rattle.std.proofs.lemmas.Bool.{cases_lt, cases_order}
 use Rattle.std.proofs.lemmas.List.{length-map, get_or-map}
-use Rattle.std.proofs.lemmas.List.Elements.{All-nil, All-append, All-weaker}
+use Rattle.std.proofs.lemmas.List.Elements.{All-nil, All-append, All-map, All-weaker}
 use Rattle.bf_id.specs.Id.{BlockId, root_id, id_eq}
 use Rattle.bf_buddy.proofs.MemberLemmas.{member_filter}
 use Rattle.bf_buddy.specs.Members.{is_member}
@@ -15,29 +15,32 @@ use Rattle.bf_program.specs.Restores.{heir_of, restored_epoch, restored_locals}
 use Rattle.bf_case.specs.declared.case.Case.{Case}
 use Rattle.bf_case.specs.Map.{Leaf, cells_at, ids_of}
 use Rattle.bf_case.specs.Model.{model}
-use Rattle.bf_block.specs.declared.setup.Setup.{Setup}
-use Rattle.bf_block.specs.Kinds.{block_kind}
-use Rattle.bf_block.specs.Setup.{case_of, every_setup_runs}
-use Rattle.bf_block.specs.Runs.{CanRun}
-use Rattle.bf_block.specs.Block.{BlockValue}
+use Rattle.bf_forest.specs.declared.setup.Setup.{Setup}
+use Rattle.bf_msg.specs.declared.linked_block.LinkedBlock.{LinkedBlock}
+use Rattle.bf_msg.specs.LinkedBlocks.{linked_kind}
+use Rattle.bf_forest.specs.Setup.{case_of, every_setup_keeps_roots}
+use Rattle.bf_forest.specs.Cases.{KeepsRoots}
 use Rattle.bf_parts.specs.Leaves.{Leaves, AreAmong, part_of, is_filled, side_at}
+use Rattle.bf_parts.specs.Counts.{count_append}
+use Rattle.bf_parts.specs.CoverLaws.{count_mapped}
 use Rattle.bf_parts.specs.StockLaws.{owner_filled}
 use Rattle.bf_parts.specs.Sides.{bare}
 use Rattle.bf_parts.specs.Spreads.{view_at}
 use Rattle.bf_stages.specs.Stages.{World, IsPlaced, local_told}
 use Rattle.bf_stages.proofs.StartLemmas.{made_is, stored_told, counted_told, kept_world, kept_placed, kept_told, regained_world, regained_placed, restored_told}
 use Rattle.bf_forest.specs.declared.local.ForestLocal.{ForestLocal}
-use Rattle.bf_forest.specs.BlockLaws.{model_map, part_are, one_id, some_leaf}
+use Rattle.bf_forest.specs.BlockLaws.{model_map, model_cells, part_are, one_id, some_leaf}
 use Rattle.bf_forest.specs.ForestLaws.{sides, staged, spans, whole_span, lawful_forest}
 use Rattle.bf_forest.specs.Goods.{IsGood, local_at, AreDealt}
-use Rattle.bf_forest.specs.Leaves.{times_among, AreLeaves}
-use Rattle.bf_forest.specs.Meanings.{forest, with_heard}
+use Rattle.bf_forest.specs.Leaves.{bare_blocks, times_among, AreLeaves}
+use Rattle.bf_block.specs.Block.{BlockValue}
+use Rattle.bf_forest.specs.Locals.{local_with}
+use Rattle.bf_forest.specs.Meanings.{forest}
 use Rattle.bf_forest.specs.ModelBlocks.{blocks_at, IsBlockAt}
 use Rattle.bf_forest.specs.StageLaws.{rounds_are, stage_step, stage_snapshot, stage_over, time_step, time_end, time_first}
 use Rattle.bf_stages.specs.Plans.{span, rounds_of, stage_of}
 use Rattle.bf_forest.specs.Stages.{forest_plan, time_at}
 use Rattle.bf_forest.specs.Staging.{leaves_in, Runs, forest_staging}
-use Rattle.bf_forest.specs.StepLaws.{model_cells}
 
 -- the leaves at the beginning of a round
 leaves_now : (c : Case) (epoch : Epoch) (round : ℕ) → epoch.time + span epoch ≡ epoch.target → leaves_in c epoch (stage_of forest_plan epoch round) ≡ blocks_at c (time_at epoch round)
@@ -65,13 +68,13 @@ told_is : (setup : Setup) (epoch : Epoch) (round : ℕ) (world : ForestWorld) �
 unfolding stage_of
 told_is setup epoch round world runs rank =
     let c : Case = case_of setup in
-    ap (λ (b : Bool). with_heard (view_at c.shift epoch b (record { now = leaves_in c epoch (stage_of forest_plan epoch round); agreed = blocks_at c epoch.time; new = blocks_at c epoch.target })
+    ap (λ (b : Bool). local_with (view_at c.shift epoch b (record { now = leaves_in c epoch (stage_of forest_plan epoch round); agreed = blocks_at c epoch.time; new = blocks_at c epoch.target })
     world.owner world.home rank) []) (made_is forest forest_staging setup (staged setup) epoch round)
-    ∙ ap (λ (ls : Leaves BlockId BlockValue). with_heard (view_at c.shift epoch (not (nat_lt round (rounds_of forest_plan epoch)))
+    ∙ ap (λ (ls : Leaves BlockId LinkedBlock). local_with (view_at c.shift epoch (not (nat_lt round (rounds_of forest_plan epoch)))
     (record { now = ls; agreed = blocks_at c epoch.time; new = blocks_at c epoch.target }) world.owner world.home rank) []) (leaves_now c epoch round (whole_span setup epoch runs))
     ∙ at (nat_lt round (rounds_of forest_plan epoch))
   where
-    at : (b : Bool) → with_heard (view_at (case_of setup).shift epoch (not b)
+    at : (b : Bool) → local_with (view_at (case_of setup).shift epoch (not b)
         (record { now = blocks_at (case_of setup) (time_at epoch round); agreed = blocks_at (case_of setup) epoch.time; new = blocks_at (case_of setup) epoch.target }) world.owner world.home rank) []
         ≡ record (local_at (case_of setup) epoch round world.owner world.home rank) { spare = cond b bare (side_at epoch.target epoch.members (case_of setup).shift (blocks_at (case_of setup) epoch.target) world.owner rank) }
     at true = refl
@@ -85,15 +88,16 @@ locals_are setup epoch round world ranks runs = ap (λ (f : ℕ → ForestLocal)
 owned_now : (setup : Setup) (epoch : Epoch) (round : ℕ) (world : ForestWorld) → Placed setup epoch round world → AreAmong epoch.members (blocks_at (case_of setup) (time_at epoch round)) world.owner
 unfolding stage_of
 owned_now setup epoch round world placed =
-    subst (λ (ls : Leaves BlockId BlockValue). AreAmong epoch.members ls world.owner) (leaves_now (case_of setup) epoch round (whole_span setup epoch placed.runs)) placed.owned
+    subst (λ (ls : Leaves BlockId LinkedBlock). AreAmong epoch.members ls world.owner) (leaves_now (case_of setup) epoch round (whole_span setup epoch placed.runs)) placed.owned
 
 -- so the blocks are dealt
 dealt : (setup : Setup) (epoch : Epoch) (round : ℕ) (world : ForestWorld) (locals : List ForestLocal) → Placed setup epoch round world
     → locals ≡ map (local_told forest forest_staging setup epoch round world) epoch.members → AreDealt (case_of setup) epoch round world.owner world.home locals
 dealt setup epoch round world locals placed are = record {
-  rising = λ time. (model_map (case_of setup) time (every_setup_runs setup)).rising;
+  rising = λ time. (model_map (case_of setup) time (every_setup_keeps_roots setup)).rising;
   owned = owned_now setup epoch round world placed;
   housed = placed.housed;
+  held = placed.held;
   are = are ∙ locals_are setup epoch round world epoch.members placed.runs;
 }
 
@@ -103,43 +107,58 @@ unfolding IsGood
 all_dealt setup epoch round locals good = (good.world.owner, good.world.home, dealt setup epoch round good.world locals good.fits good.are)
 
 -- THE LEAVES OF ALL MEMBERS
-parts_are : (c : Case) (epoch : Epoch) (round : ℕ) (owner home : BlockId → ℕ) (ranks : List ℕ) → CanRun c
-    → All (IsBlockAt c (time_at epoch round)) (flat_map (λ (local : ForestLocal). local.blocks) (map (local_at c epoch round owner home) ranks))
+abbrev own_blocks : ForestLocal → List BlockValue
+own_blocks local = bare_blocks local.blocks
+
+parts_are : (c : Case) (epoch : Epoch) (round : ℕ) (owner home : BlockId → ℕ) (ranks : List ℕ) → KeepsRoots c
+    → All (IsBlockAt c (time_at epoch round)) (flat_map own_blocks (map (local_at c epoch round owner home) ranks))
 parts_are c epoch round owner home [] runs = All-nil (IsBlockAt c (time_at epoch round))
 parts_are c epoch round owner home (rank ∷ ranks) runs =
-    All-append (IsBlockAt c (time_at epoch round)) (part_of (blocks_at c (time_at epoch round)) owner rank)
-    (flat_map (λ (local : ForestLocal). local.blocks) (map (local_at c epoch round owner home) ranks))
-    (part_are c (time_at epoch round) owner rank runs) (parts_are c epoch round owner home ranks runs)
+    All-append (IsBlockAt c (time_at epoch round)) (bare_blocks (part_of (blocks_at c (time_at epoch round)) owner rank))
+    (flat_map own_blocks (map (local_at c epoch round owner home) ranks))
+    (All-map (IsBlockAt c (time_at epoch round)) (λ (b : LinkedBlock). b.block) (part_of (blocks_at c (time_at epoch round)) owner rank) (part_are c (time_at epoch round) owner rank runs))
+    (parts_are c epoch round owner home ranks runs)
+
+-- links count for nothing
+bare_counted : (test : BlockValue → Bool) (locals : List ForestLocal)
+    → count_by test (flat_map own_blocks locals) ≡ count_by (λ (b : LinkedBlock). test b.block) (flat_map (λ (local : ForestLocal). local.blocks) locals)
+bare_counted test [] = refl
+bare_counted test (local ∷ locals) =
+    count_append test (own_blocks local) (flat_map own_blocks locals)
+    ∙ ap (λ n. n + count_by test (flat_map own_blocks locals)) (count_mapped (λ (b : LinkedBlock). b.block) test (λ (b : LinkedBlock). test b.block) (λ b. refl) local.blocks)
+    ∙ ap (λ n. count_by (λ (b : LinkedBlock). test b.block) local.blocks + n) (bare_counted test locals)
+    ∙ sym (count_append (λ (b : LinkedBlock). test b.block) local.blocks (flat_map (λ (local : ForestLocal). local.blocks) locals))
 
 -- counted by a test of their ids
 ids_counted : (c : Case) (time : ℕ) (owner : BlockId → ℕ) (test : BlockId → Bool)
-    → count_by (λ key. test ((blocks_at c time).item owner key).id) (blocks_at c time).keys ≡ count_by test (ids_of (model c time))
+    → count_by (λ key. test ((blocks_at c time).item owner key).block.id) (blocks_at c time).keys ≡ count_by test (ids_of (model c time))
 unfolding blocks_at
 ids_counted c time owner test = refl
 
 counted : (setup : Setup) (epoch : Epoch) (round : ℕ) (locals : List ForestLocal) → IsGood setup epoch round locals → (test : BlockId → Bool)
-    → count_by (λ (b : BlockValue). test b.id) (flat_map (λ (local : ForestLocal). local.blocks) locals) ≡ count_by test (ids_of (model (case_of setup) (time_at epoch round)))
+    → count_by (λ (b : BlockValue). test b.id) (flat_map own_blocks locals) ≡ count_by test (ids_of (model (case_of setup) (time_at epoch round)))
 unfolding IsGood stage_of
 counted setup epoch round locals good test =
     let c : Case = case_of setup in
     let world : ForestWorld = good.world in
-    ap (λ (ls : List ForestLocal). count_by (λ (b : BlockValue). test b.id) (flat_map (λ (local : ForestLocal). local.blocks) ls)) good.are
-    ∙ counted_told forest forest_staging block_kind setup (sides setup) epoch round world (λ (b : BlockValue). test b.id) good.fits
-    ∙ ap (λ (ls : Leaves BlockId BlockValue). count_by (λ key. test (ls.item world.owner key).id) ls.keys) (leaves_now c epoch round (whole_span setup epoch good.fits.runs))
+    bare_counted (λ b. test b.id) locals
+    ∙ ap (λ (ls : List ForestLocal). count_by (λ (b : LinkedBlock). test b.block.id) (flat_map (λ (local : ForestLocal). local.blocks) ls)) good.are
+    ∙ counted_told forest forest_staging linked_kind setup (sides setup) epoch round world (λ (b : LinkedBlock). test b.block.id) good.fits
+    ∙ ap (λ (ls : Leaves BlockId LinkedBlock). count_by (λ key. test (ls.item world.owner key).block.id) ls.keys) (leaves_now c epoch round (whole_span setup epoch good.fits.runs))
     ∙ ids_counted c (time_at epoch round) world.owner test
 
 pub good_leaves : (setup : Setup) (epoch : Epoch) (round : ℕ) (locals : List ForestLocal) → IsGood setup epoch round locals
-    → AreLeaves (model (case_of setup) (time_at epoch round)) (flat_map (λ (local : ForestLocal). local.blocks) locals)
+    → AreLeaves (model (case_of setup) (time_at epoch round)) (flat_map own_blocks locals)
 good_leaves setup epoch round locals good = record {
   cells = All-weaker (IsBlockAt c time) (λ (b : BlockValue). cells_at (model c time) b.id ≡ Some b.cells) (λ b is. model_cells c time b is) blocks
-      (subst (λ (ls : List ForestLocal). All (IsBlockAt c time) (flat_map (λ (local : ForestLocal). local.blocks) ls)) (sym has.2.are)
-      (parts_are c epoch round has.0 has.1 epoch.members (every_setup_runs setup)));
+      (subst (λ (ls : List ForestLocal). All (IsBlockAt c time) (flat_map own_blocks ls)) (sym has.2.are)
+      (parts_are c epoch round has.0 has.1 epoch.members (every_setup_keeps_roots setup)));
   once = λ k d within.
       let same : get_or (ids_of (model c time)) k d.0 ≡ (get_or (model c time) k d).0 = get_or-map (λ (leaf : Leaf). leaf.0) (model c time) k d d.0 within in
       let below : k < length (ids_of (model c time)) = omega (arith, within, length-map (model c time) (λ (leaf : Leaf). leaf.0)) in
       ap (times_among blocks) (sym same)
       ∙ counted setup epoch round locals good (λ i. id_eq i (get_or (ids_of (model c time)) k d.0))
-      ∙ one_id c time k d.0 (every_setup_runs setup) below;
+      ∙ one_id c time k d.0 (every_setup_keeps_roots setup) below;
 }
   where
     c : Case
@@ -149,17 +168,17 @@ good_leaves setup epoch round locals good = record {
     time = time_at epoch round
 
     blocks : List BlockValue
-    blocks = flat_map (λ (local : ForestLocal). local.blocks) locals
+    blocks = flat_map own_blocks locals
 
     has : (owner : BlockId → ℕ) × (home : BlockId → ℕ) × AreDealt c epoch round owner home locals
     has = all_dealt setup epoch round locals good
 
 -- the blocks at the end of an epoch
 pub last_leaves : (setup : Setup) (epoch : Epoch) (locals : List ForestLocal) → IsGood setup epoch (rounds_of forest_plan epoch) locals
-    → AreLeaves (model (case_of setup) epoch.target) (flat_map (λ (local : ForestLocal). local.blocks) locals)
+    → AreLeaves (model (case_of setup) epoch.target) (flat_map own_blocks locals)
 unfolding IsGood
 last_leaves setup epoch locals good =
-    subst (λ t. AreLeaves (model (case_of setup) t) (flat_map (λ (local : ForestLocal). local.blocks) locals))
+    subst (λ t. AreLeaves (model (case_of setup) t) (flat_map own_blocks locals))
     (time_end epoch (rounds_of forest_plan epoch) (whole_span setup epoch good.fits.runs) (let many = rounds_are epoch in omega (arith, many))) (good_leaves setup epoch (rounds_of forest_plan epoch) locals good)
 
 -- A COMMIT
@@ -169,22 +188,22 @@ pub all_kept : (setup : Setup) (epoch : Epoch) (locals : List ForestLocal) → I
 unfolding IsGood
 all_kept setup epoch locals good goes_on =
     let next : Epoch = epoch_after_commit (case_of setup).steps (case_of setup).snapshot epoch in
-    let after : ForestWorld = kept_world forest forest_staging block_kind setup (staged setup) (sides setup) (spans setup) good.world in
-    let placed : Placed setup next 0 after = kept_placed forest forest_staging block_kind setup (staged setup) (sides setup) (spans setup) epoch good.world good.fits goes_on in (
+    let after : ForestWorld = kept_world forest forest_staging linked_kind setup (staged setup) (sides setup) (spans setup) good.world in
+    let placed : Placed setup next 0 after = kept_placed forest forest_staging linked_kind setup (staged setup) (sides setup) (spans setup) epoch good.world good.fits goes_on in (
       good.world.owner,
       good.world.home,
       dealt setup epoch (rounds_of forest_plan epoch) good.world locals good.fits good.are,
       dealt setup next 0 after (map forest.keep locals) placed
-          (ap (map forest.keep) good.are ∙ kept_told forest forest_staging block_kind setup (staged setup) (sides setup) (spans setup) epoch good.world good.fits goes_on),
+          (ap (map forest.keep) good.are ∙ kept_told forest forest_staging linked_kind setup (staged setup) (sides setup) (spans setup) epoch good.world good.fits goes_on),
     )
 
 -- A RESTORE
 pub restored_leaves : (setup : Setup) (epoch : Epoch) (round : ℕ) (locals : List ForestLocal) (lives : ℕ → Bool) → IsGood setup epoch round locals
     → first_lost_of epoch.homes (forest.stored locals) (filter lives epoch.members) (forest.shift setup) ≡ None
-    → AreLeaves (model (case_of setup) epoch.time) (flat_map (λ (local : ForestLocal). local.blocks) (restored_locals forest setup epoch lives locals))
+    → AreLeaves (model (case_of setup) epoch.time) (flat_map own_blocks (restored_locals forest setup epoch lives locals))
 restored_leaves setup epoch round locals lives good none =
     let after : List ForestLocal = restored_locals forest setup epoch lives locals in
-    subst (λ time. AreLeaves (model (case_of setup) time) (flat_map (λ (local : ForestLocal). local.blocks) after)) (time_first (restored_epoch lives epoch))
+    subst (λ time. AreLeaves (model (case_of setup) time) (flat_map own_blocks after)) (time_first (restored_epoch lives epoch))
     (good_leaves setup (restored_epoch lives epoch) 0 after ((lawful_forest setup).goods.restore epoch round locals lives good none))
 
 -- who lives goes on with the blocks whose heir it is
@@ -195,15 +214,15 @@ pub all_regained : (setup : Setup) (epoch : Epoch) (round : ℕ) (locals : List 
     (restored_locals forest setup epoch lives locals)
 unfolding IsGood
 all_regained setup epoch round locals lives good none =
-    let after : ForestWorld = regained_world forest forest_staging block_kind setup (staged setup) (sides setup) (spans setup) epoch lives good.world in
+    let after : ForestWorld = regained_world forest forest_staging linked_kind setup (staged setup) (sides setup) (spans setup) epoch lives good.world in
     let none_told : first_lost_of epoch.homes (forest.stored (map (local_told forest forest_staging setup epoch round good.world) epoch.members)) (filter lives epoch.members) (forest.shift setup) ≡ None =
     ap (λ (ls : List ForestLocal). first_lost_of epoch.homes (forest.stored ls) (filter lives epoch.members) (forest.shift setup)) (sym good.are) ∙ none in
-    let placed : Placed setup (restored_epoch lives epoch) 0 after = regained_placed forest forest_staging block_kind setup (staged setup) (sides setup) (spans setup) epoch round good.world lives good.fits none_told in (
+    let placed : Placed setup (restored_epoch lives epoch) 0 after = regained_placed forest forest_staging linked_kind setup (staged setup) (sides setup) (spans setup) epoch round good.world lives good.fits none_told in (
       good.world.owner,
       good.world.home,
       dealt setup epoch round good.world locals good.fits good.are,
       dealt setup (restored_epoch lives epoch) 0 after (restored_locals forest setup epoch lives locals) placed
-          (ap (restored_locals forest setup epoch lives) good.are ∙ restored_told forest forest_staging block_kind setup (staged setup) (sides setup) (spans setup) epoch round good.world lives good.fits),
+          (ap (restored_locals forest setup epoch lives) good.are ∙ restored_told forest forest_staging linked_kind setup (staged setup) (sides setup) (spans setup) epoch round good.world lives good.fits),
     )
 
 -- THE NUMBER OF ROUNDS, and a home that has a block
@@ -221,8 +240,8 @@ pub some_home : (setup : Setup) (epoch : Epoch) (round : ℕ) (locals : List For
 unfolding IsGood
 some_home setup epoch round locals good =
     let c : Case = case_of setup in
-    let leaves : Leaves BlockId BlockValue = blocks_at c epoch.time in
-    let some : 0 < length leaves.keys = some_leaf c epoch.time (every_setup_runs setup) in
+    let leaves : Leaves BlockId LinkedBlock = blocks_at c epoch.time in
+    let some : 0 < length leaves.keys = some_leaf c epoch.time (every_setup_keeps_roots setup) in
     let i : BlockId = slice_index_or leaves.keys 0 (root_id 0) in
     let home : ℕ = good.world.home i in
     let is_home : is_member epoch.homes home ≡ true = good.fits.housed 0 (root_id 0) some in
@@ -230,6 +249,6 @@ some_home setup epoch round locals good =
     let both : (is_member epoch.homes home && is_filled leaves good.world.home home) ≡ true = rw (is_home, full) refl in (
       home,
       ap (λ (ls : List ForestLocal). is_member (forest.stored ls) home) good.are
-          ∙ ap (λ homes. is_member homes home) (stored_told forest forest_staging block_kind setup (sides setup) epoch round good.world good.fits)
+          ∙ ap (λ homes. is_member homes home) (stored_told forest forest_staging linked_kind setup (sides setup) epoch round good.world good.fits)
           ∙ member_filter (is_filled leaves good.world.home) epoch.homes home ∙ both,
     )

@@ -1,31 +1,78 @@
--- What a rank knows when it steps its blocks.
-use Rattle.std.specs.Prelude.{◌≡◌, ℕ, ◌+◌, ◌<◌, ◌++◌, All, Contains, IsFalse}
+-- What a rank's blocks must be to tell others, and to be stepped.
+use Rattle.std.specs.Prelude.{◌≡◌, ℕ, ◌<◌, List, ◌++◌, length, get_or, map, All, AllPairs}
+use Rattle.bf_id.specs.declared.shape.Shape.{Shape}
+use Rattle.bf_id.specs.Id.{BlockId, InShape}
+use Rattle.bf_id.specs.Walk.{IsBefore}
 use Rattle.bf_case.specs.declared.case.Case.{Case}
-use Rattle.bf_case.specs.Map.{ids_of}
 use Rattle.bf_case.specs.Model.{model}
-use Rattle.bf_block.specs.Block.{BlockValue, IsModels, after_regrid, map_at}
+use Rattle.bf_links.specs.declared.link.Link.{Link}
+use Rattle.bf_ghost.specs.Strips.{StripValue}
+use Rattle.bf_ghost.specs.Filling.{AreStripsFor}
+use Rattle.bf_ghost.specs.Telling.{strips_for}
+use Rattle.bf_msg.specs.declared.linked_block.LinkedBlock.{LinkedBlock}
 use Rattle.bf_forest.specs.declared.local.ForestLocal.{ForestLocal}
-use Rattle.bf_forest.specs.Gathered.{advanced}
+use Rattle.bf_forest.specs.declared.stage.Stage.{Stage}
+use Rattle.bf_forest.specs.declared.stage.Stage.TheVariants.{Step, Snapshot, Over}
 use Rattle.bf_forest.specs.ModelBlocks.{IsBlockAt}
-use Rattle.bf_forest.specs.StepLaws.{HasRoots}
+use Rattle.bf_forest.specs.Rounds.{strips_to}
 
--- all blocks of a time before its regrid, its own and those that it has heard of; and the run goes on
-pub record IsReady (c : Case) (time : ℕ) (local : ForestLocal) : Type 0 where
-  pub known : All (IsBlockAt c time) (local.blocks ++ local.heard)
-  pub roots : HasRoots c (local.blocks ++ local.heard)
+-- a block lies in the domain, and so do all leaves that it is linked with
+pub record IsLinkedIn (shape : Shape) (b : LinkedBlock) : Type 0 where
+  pub own : InShape shape b.block.id
+  pub links : All (λ (link : Link). InShape shape link.id) b.links
+
+-- each owner in the links is below 32, as ranks are
+abbrev pub AreOwnedBelow : List LinkedBlock → Type 0
+AreOwnedBelow blocks = All (λ (b : LinkedBlock). All (λ (link : Link). link.owner < 32) b.links) blocks
+
+-- so all of a rank's blocks
+abbrev pub CanTell : Case → ForestLocal → Type 0
+CanTell c local = All (IsLinkedIn c.roots) local.blocks
+
+-- what a message needs
+abbrev pub CanSend : Case → Stage → ForestLocal → Type 0
+CanSend c (Step time) local = CanTell c local
+CanSend c Snapshot local = Unit {0}
+CanSend c Over local = Unit {0}
+
+-- blocks by rising id
+abbrev pub AreOrdered : List LinkedBlock → Type 0
+AreOrdered blocks = AllPairs (λ (a b : LinkedBlock). IsBefore a.block.id b.block.id) blocks
+
+-- where among blocks the one of an id stands, and that there is none
+abbrev pub StandsAt : List LinkedBlock → BlockId → ℕ → Type 0
+StandsAt blocks id place = (place < length blocks) × ((default : LinkedBlock) → (get_or blocks place default).block.id ≡ id)
+
+abbrev pub StandsNowhere : List LinkedBlock → BlockId → Type 0
+StandsNowhere blocks id = (place : ℕ) (default : LinkedBlock) → place < length blocks → (get_or blocks place default).block.id ≡ id → ⊥
+
+-- a block of the model, to which all leaves that share a face with it tell what lies there
+pub record CanStep (c : Case) (time : ℕ) (strips : List StripValue) (b : LinkedBlock) : Type 0 where
+  pub is : IsBlockAt c time b.block
+  pub told : AreStripsFor c.roots (model c time) b.block.id (strips_for b.block.id strips)
+
+-- the same of a block and the strips that are for it
+pub record IsBetween (c : Case) (time : ℕ) (strips : List StripValue) (b : LinkedBlock) : Type 0 where
+  pub is : IsBlockAt c time b.block
+  pub told : AreStripsFor c.roots (model c time) b.block.id strips
   pub more : time < c.steps
 
--- a block that its time's regrid keeps
-pub record CanBeKept (b : BlockValue) : Type 0 where
-  pub fresh : IsFalse b.point.regridded
-  pub leaf : Contains (ids_of (map_at b.case (after_regrid b.point.time))) b.id
+abbrev pub IsPairBetween : Case → (time : ℕ) → LinkedBlock × List StripValue → Type 0
+IsPairBetween c time pair = IsBetween c time pair.1 pair.0
 
--- a block of a case, at a time after its regrid, with the model's cells
-pub record IsKeptAt (c : Case) (time : ℕ) (b : BlockValue) : Type 0 where
-  pub of_case : b.case ≡ c
-  pub at : b.point ≡ after_regrid time
-  pub models : IsModels b
+-- what each block is told by some strips
+abbrev pub groups_of : List StripValue → List LinkedBlock → List (List StripValue)
+groups_of strips blocks = map (λ (b : LinkedBlock). strips_for b.block.id strips) blocks
 
--- a block one step later, as the model has it
-abbrev pub next_block : Case → BlockValue → BlockValue
-next_block c b = advanced (model c (b.point.time + 1)) b
+-- all that a step needs; and the run goes on
+pub record IsReady (c : Case) (time : ℕ) (local : ForestLocal) : Type 0 where
+  pub tells : CanTell c local
+  pub ordered : AreOrdered local.blocks
+  pub told : All (CanStep c time (local.heard ++ strips_to c.roots local.rank local.blocks)) local.blocks
+  pub more : time < c.steps
+
+-- what the end of a round needs
+abbrev pub CanFinish : Case → Stage → ForestLocal → Type 0
+CanFinish c (Step time) local = IsReady c time local
+CanFinish c Snapshot local = Unit {0}
+CanFinish c Over local = Unit {0}

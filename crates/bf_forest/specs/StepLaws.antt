@@ -1,102 +1,103 @@
--- Blocks that are the model's make its map together, and a step leads to its next map.
-use Rattle.std.proofs.Common.{◌≡◌, ℕ, ◌<◌, true, false, List, [], ◌∷◌, get_or, map, Some, ◌⊎◌, inl, inr, Contains, refl, sym, ap, subst, ◌∙◌, All}
-use Rattle.std.proofs.lemmas.Bool.{cases_Bool}
+-- A step leads from the blocks of a time to those of the next.
+use Rattle.std.proofs.Common.{◌≡◌, ℕ, ◌+◌, ◌++◌, List, [], map, Contains, Some, sym, ap, subst, ◌∙◌}
+use Rattle.std.specs.Prelude.{◌==◌, filter}
 use Rattle.std.proofs.lemmas.Option.{same_Some}
-use Rattle.std.proofs.lemmas.List.Elements.{All-map, All-weaker, All-contains}
-use Rattle.std.proofs.lemmas.List.FromFn.{fill_by_all}
-use Rattle.bf_id.specs.Shape.{root_count}
-use Rattle.bf_id.specs.Id.{BlockId, root_id, id_eq}
-use Rattle.bf_id.proofs.Boxes.{id_eq_is_equal}
-use Rattle.bf_id.proofs.Tilings.{Contains-none, Contains-cons_cases, Contains-from_fn_cases}
+use Rattle.std.proofs.lemmas.Simd.{map-map}
+use Rattle.bf_lemmas.proofs.Lists.{All-from_Contains, map_each}
+use Rattle.bf_id.specs.Id.{BlockId}
 use Rattle.bf_cells.specs.Grid.{Grid, grid_with}
+use Rattle.bf_cells.specs.Kernel.{relaxed_grid}
 use Rattle.bf_case.specs.declared.case.Case.{Case}
 use Rattle.bf_case.specs.Map.{Leaf, ids_of, cells_at}
 use Rattle.bf_case.specs.Model.{model}
 use Rattle.bf_case.proofs.ListLemmas.{Contains-map}
 use Rattle.bf_case.proofs.LookupLemmas.{leaf_from_cells_at}
-use Rattle.bf_case.proofs.MapLemmas.{IsRootMap-model}
-use Rattle.bf_case.proofs.RootModel.{roots_of_model, cells_of_root}
-use Rattle.bf_case.proofs.RootSteps.{roots_are}
-use Rattle.bf_case.specs.Around.{grid_at, nothing}
+use Rattle.bf_case.proofs.TestLemmas.{Contains-filter_cases}
+use Rattle.bf_case.proofs.ModelLemmas.{balanced-model}
 use Rattle.bf_block.specs.declared.point.Point.{Point}
-use Rattle.bf_block.specs.Runs.{never_refines, CanRun}
-use Rattle.bf_block.specs.Block.{BlockValue, leaf_of, map_at}
-use Rattle.bf_forest.specs.Gathered.{cells_or, root_among, gathered}
-use Rattle.bf_forest.specs.ModelBlocks.{IsBlockAt}
+use Rattle.bf_block.specs.Block.{BlockValue, IsModels, map_at, before_regrid, after_regrid, kept_block, stepped_block}
+use Rattle.bf_block.proofs.Steps.{model_regridded, stepped_leaf}
+use Rattle.bf_links.specs.declared.link.Link.{Link}
+use Rattle.bf_links.specs.Links.{links_of}
+use Rattle.bf_case.specs.Beside.{HoldSamples}
+use Rattle.bf_ghost.specs.Filling.{AreStripsFor}
+use Rattle.bf_ghost.specs.Strips.{StripValue}
+use Rattle.bf_ghost.specs.Telling.{strips_for}
+use Rattle.bf_parts.specs.Leaves.{AreAmong, part_of}
+use Rattle.bf_msg.specs.declared.linked_block.LinkedBlock.{LinkedBlock}
+use Rattle.bf_forest.specs.BlockLaws.{ids_next, block_is, model_cells}
+use Rattle.bf_forest.specs.Cases.{KeepsRoots}
+use Rattle.bf_forest.specs.ModelBlocks.{cells_or, block_at, linked_at, blocks_at, IsBlockAt}
+use Rattle.bf_forest.specs.Rounds.{stepped_by, stepped_all, strips_to}
+use Rattle.bf_forest.specs.StripLaws.{heard, all_told, strips_are_all}
+use Rattle.bf_forest.specs.Surrounding.{surrounding}
+use Rattle.bf_forest.specs.SurroundingLaws.{surrounding_holds, surrounding_side}
 
--- the model has a block's cells
-pub model_cells : (c : Case) (time : ℕ) (b : BlockValue) → IsBlockAt c time b → cells_at (model c time) b.id ≡ Some b.cells
-model_cells c time b is =
-    subst (λ (p : Point). cells_at (map_at c p) b.id ≡ Some b.cells) is.at
-    (subst (λ (k : Case). cells_at (map_at k b.point) b.id ≡ Some b.cells) is.of_case is.models.leaf)
+module _ (c : Case) (time : ℕ) (runs : KeepsRoots c) where
+  -- the model's cells of a leaf, one step later, by the strips that are told to it
+  pub stepped_cells : (b : BlockValue) (strips : List StripValue) → IsBlockAt c time b → AreStripsFor c.roots (model c time) b.id strips
+      → cells_at (model c (time + 1)) b.id ≡ Some (relaxed_grid b.cells (surrounding b.cells strips))
+  stepped_cells b strips is are =
+      let i : BlockId = b.id in
+      let g : Grid = b.cells in
+      let found : cells_at (model c time) i ≡ Some g = model_cells c time b is in
+      let map = balanced-model c time runs.valid in
+      let holds = surrounding_holds c.roots c.side (model c time) i g strips runs.valid.sized.shape map.map map.balanced (leaf_from_cells_at (model c time) i g found) are in
+      let same = model_regridded c time runs.valid runs.never in
+      stepped_leaf c time i g (surrounding g strips) (record { valid = runs.valid })
+      (ap (λ (leaves : List Leaf). cells_at leaves i) same ∙ found)
+      (surrounding_side g strips)
+      (subst (λ (leaves : List Leaf). HoldSamples c.roots leaves i g (surrounding g strips)) (sym same) holds)
 
--- a leaf of the model is a root
-pub root_of_leaf : (c : Case) (time : ℕ) (i : BlockId) (g : Grid) → CanRun c → cells_at (model c time) i ≡ Some g → (i ≡ root_id i.root) × (i.root < root_count c.roots)
-root_of_leaf c time i g runs found =
-    let has_id : Contains (ids_of (model c time)) i =
-    Contains-map (λ (leaf : Leaf). leaf.0) (model c time) (i, g) (leaf_from_cells_at (model c time) i g found) in
-    let its = Contains-from_fn_cases root_id (root_count c.roots) i
-    (subst (λ (ids : List BlockId). Contains ids i) (IsRootMap-model c time runs.valid (never_refines runs)).roots has_id) in
-    let root : i.root ≡ its.0 = ap (λ (j : BlockId). j.root) its.2 in
-    (its.2 ∙ ap root_id (sym root), rw root its.1)
+  -- so what is the model's of this leaf at the next time is the block one step later
+  pub next_is : (b next : BlockValue) (strips : List StripValue) → IsBlockAt c time b → AreStripsFor c.roots (model c time) b.id strips
+      → next.id ≡ b.id → next.point ≡ before_regrid (time + 1) → next.case ≡ c → IsModels next → next ≡ stepped_block (kept_block b) (surrounding b.cells strips)
+  next_is b next strips is are same_id point of_case models =
+      let found : cells_at (map_at next.case next.point) next.id ≡ Some next.cells = models.leaf in
+      let there : cells_at (model c (time + 1)) b.id ≡ Some next.cells =
+      subst (λ (i : BlockId). cells_at (model c (time + 1)) i ≡ Some next.cells) same_id
+      (subst (λ (p : Point). cells_at (map_at c p) next.id ≡ Some next.cells) point
+      (subst (λ (k : Case). cells_at (map_at k next.point) next.id ≡ Some next.cells) of_case found)) in
+      let cells : next.cells ≡ relaxed_grid b.cells (surrounding b.cells strips) =
+      same_Some next.cells (relaxed_grid b.cells (surrounding b.cells strips)) (sym there ∙ stepped_cells b strips is are) in
+      let at : next.point ≡ before_regrid (b.point.time + 1) = point ∙ ap (λ (p : Point). before_regrid (p.time + 1)) (sym is.at) in
+      λ k. record { case = (of_case ∙ sym is.of_case) k; point = at k; id = same_id k; cells = cells k }
 
--- a block is a root
-pub block_root : (c : Case) (time : ℕ) (b : BlockValue) → CanRun c → IsBlockAt c time b → (b.id ≡ root_id b.id.root) × (b.id.root < root_count c.roots)
-block_root c time b runs is = root_of_leaf c time b.id b.cells runs (model_cells c time b is)
+  -- and a block that nothing regrids is kept
+  pub kept_is : (b : BlockValue) → IsBlockAt c time b → Contains (ids_of (map_at b.case (after_regrid b.point.time))) b.id
+  kept_is b is =
+      let has : Contains (ids_of (model c time)) b.id = Contains-map (λ (leaf : Leaf). leaf.0) (model c time) (b.id, b.cells) (leaf_from_cells_at (model c time) b.id b.cells (model_cells c time b is)) in
+      subst (λ (p : Point). Contains (ids_of (map_at b.case (after_regrid p.time))) b.id) (sym is.at)
+      (subst (λ (k : Case). Contains (ids_of (map_at k (after_regrid time))) b.id) (sym is.of_case)
+      (subst (λ (leaves : List Leaf). Contains (ids_of leaves) b.id) (sym (model_regridded c time runs.valid runs.never)) has))
 
--- what is found of a root among blocks is what the model has of it
-found_is_models : (c : Case) (time : ℕ) (known : List BlockValue) (i : BlockId) (g : Grid) → All (IsBlockAt c time) known
-    → cells_at (map leaf_of known) i ≡ Some g → cells_at (model c time) i ≡ Some g
-found_is_models c time known i g are found =
-    All-contains (λ (leaf : Leaf). cells_at (model c time) leaf.0 ≡ Some leaf.1) (map leaf_of known) (i, g)
-    (All-map (λ (leaf : Leaf). cells_at (model c time) leaf.0 ≡ Some leaf.1) leaf_of known
-    (All-weaker (IsBlockAt c time) (λ (b : BlockValue). cells_at (model c time) b.id ≡ Some b.cells) (λ b is. model_cells c time b is) known are))
-    (leaf_from_cells_at (map leaf_of known) i g found)
+  -- the strips for a block are those for it once it is kept
+  pub kept_told : (b : BlockValue) (strips : List StripValue) → IsBlockAt c time b → AreStripsFor c.roots (model c time) b.id strips
+      → AreStripsFor (kept_block b).case.roots (map_at (kept_block b).case (kept_block b).point) (kept_block b).id strips
+  kept_told b strips is are =
+      subst (λ (p : Point). AreStripsFor b.case.roots (map_at b.case (after_regrid p.time)) b.id strips) (sym is.at)
+      (subst (λ (k : Case). AreStripsFor k.roots (map_at k (after_regrid time)) b.id strips) (sym is.of_case)
+      (subst (λ (leaves : List Leaf). AreStripsFor c.roots leaves b.id strips) (sym (model_regridded c time runs.valid runs.never)) are))
 
--- some cells are found of an id that a leaf has
-is_found : (leaves : List Leaf) (i : BlockId) (g : Grid) → Contains leaves (i, g) → (h : Grid) × (cells_at leaves i ≡ Some h)
-is_found [] i g has = absurd (Contains-none (i, g) has)
-is_found (leaf ∷ leaves) i g has = by (cases_Bool (id_eq leaf.0 i)) (is_found leaves i g)
-  where
-    by : (id_eq leaf.0 i ≡ true) ⊎ (id_eq leaf.0 i ≡ false) → (Contains leaves (i, g) → (h : Grid) × (cells_at leaves i ≡ Some h))
-        → (h : Grid) × (cells_at (leaf ∷ leaves) i ≡ Some h)
-    by (inl passed) later = (leaf.1, rw passed refl)
-    by (inr failed) later =
-        let found = later (rest (Contains-cons_cases leaf leaves (i, g) has)) in (found.0, rw failed found.1)
-      where
-        rest : ((i, g) ≡ leaf) ⊎ Contains leaves (i, g) → Contains leaves (i, g)
-        rest (inl same) = absurd (
-            let its : leaf.0 ≡ i = ap (λ (l : Leaf). l.0) (sym same) in
-            let passed : id_eq leaf.0 i ≡ true = (id_eq_is_equal leaf.0 i).1 its in
-            let both : true ≡ false = sym passed ∙ failed in cc)
-        rest (inr in') = in'
+  -- so each block of a time becomes that of the next, with the same links
+  stepped_is : (owner : BlockId → ℕ) (strips : List StripValue) (i : BlockId) → Contains (ids_of (model c time)) i → AreStripsFor c.roots (model c time) i (strips_for i strips)
+      → stepped_by strips (linked_at c time owner i) ≡ linked_at c (time + 1) owner i
+  stepped_is owner strips i has are =
+      let with : Grid → List Link → LinkedBlock = λ g links. record { block = record { case = c; point = before_regrid (time + 1); id = i; cells = g }; links = links } in
+      ap (λ o. with (cells_or o (grid_with 0 [])) (links_of c.roots (ids_of (model c time)) owner i)) (sym (stepped_cells (block_at c time i) (strips_for i strips) (block_is c time i runs has) are))
+      ∙ ap (λ (ids : List BlockId). with (cells_or (cells_at (model c (time + 1)) i) (grid_with 0 [])) (links_of c.roots ids owner i)) (sym (ids_next c time runs))
 
--- each root is among the blocks
-abbrev pub HasRoots : Case → List BlockValue → Type 0
-HasRoots c known = (k : ℕ) → k < root_count c.roots → (b : BlockValue) × Contains known b × (b.id.root ≡ k)
-
-root_cells : (c : Case) (time : ℕ) (known : List BlockValue) (k : ℕ) → CanRun c → All (IsBlockAt c time) known → HasRoots c known → k < root_count c.roots
-    → cells_at (model c time) (root_id k) ≡ Some (root_among known k).1
-root_cells c time known k runs are has below =
-    let b = has k below in
-    let id : b.0.id ≡ root_id k = (block_root c time b.0 runs (All-contains (IsBlockAt c time) known b.0 are b.1)).0 ∙ ap root_id b.2 in
-    let leaf : Contains (map leaf_of known) (root_id k, b.0.cells) =
-    subst (λ (i : BlockId). Contains (map leaf_of known) (i, b.0.cells)) id (Contains-map leaf_of known b.0 b.1) in
-    let found = is_found (map leaf_of known) (root_id k) b.0.cells leaf in
-    found_is_models c time known (root_id k) found.0 are found.1 ∙ ap (λ o. Some (cells_or o (grid_with 0 []))) (sym found.1)
-
--- the blocks make the model's map together
-pub gathered_is_model : (c : Case) (time : ℕ) (known : List BlockValue) → CanRun c → All (IsBlockAt c time) known → HasRoots c known
-    → gathered c known ≡ model c time
-unfolding gathered
-gathered_is_model c time known runs are has =
-    let leaves = model c time in
-    let roots = roots_are c.roots leaves (roots_of_model c time runs.valid (never_refines runs)) in
-    sym (fill_by_all (root_among known) leaves (root_count c.roots) nothing roots.0 (λ k below. same k below (roots.1 k nothing below)))
-  where
-    same : (k : ℕ) → k < root_count c.roots → (get_or (model c time) k nothing).0 ≡ root_id k → get_or (model c time) k nothing ≡ root_among known k
-    same k below id =
-        let cells : grid_at (model c time) k ≡ (root_among known k).1 =
-        same_Some (grid_at (model c time) k) (root_among known k).1
-        (sym (cells_of_root c time k runs.valid (never_refines runs) below) ∙ root_cells c time known k runs are has below) in
-        λ j. (id j, cells j)
+  -- and a rank's part of a time becomes its part of the next
+  pub stepped_part : (owner : BlockId → ℕ) (members : List ℕ) (rank : ℕ) (told : List StripValue) → AreAmong members (blocks_at c time) owner → told ≡ heard c time owner members rank
+      → stepped_all c.roots rank told (part_of (blocks_at c time) owner rank) ≡ part_of (blocks_at c (time + 1)) owner rank
+  unfolding stepped_all part_of blocks_at
+  stepped_part owner members rank told owned are =
+      let own : List BlockId = filter (λ i. owner i == rank) (ids_of (model c time)) in
+      let all : List StripValue = all_told c time owner members rank in
+      ap (λ (strips : List StripValue). map (stepped_by (strips ++ strips_to c.roots rank (map (linked_at c time owner) own))) (map (linked_at c time owner) own)) are
+      ∙ map-map (stepped_by all) (linked_at c time owner) own
+      ∙ map_each (λ i. stepped_by all (linked_at c time owner i)) (linked_at c (time + 1) owner) own
+      (All-from_Contains (λ i. stepped_by all (linked_at c time owner i) ≡ linked_at c (time + 1) owner i) own (λ i has.
+      let its = Contains-filter_cases (λ i. owner i == rank) (ids_of (model c time)) i has in
+      stepped_is owner all i its.0 (strips_are_all c time runs owner members rank owned i its.0 its.1)))
+      ∙ ap (λ (ids : List BlockId). map (linked_at c (time + 1) owner) (filter (λ i. owner i == rank) ids)) (sym (ids_next c time runs))

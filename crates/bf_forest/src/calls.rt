@@ -1,62 +1,124 @@
+//! The calls of each round.
 ghost use Rattle.std.specs.Prelude.{◌≡◌, IfOk, OnOk};
-ghost use Rattle.bf_block.specs.Setup.{case_of};
-ghost use Rattle.bf_forest.specs.Meanings.{told, heard_of, ended, restored};
+ghost use Rattle.bf_forest.specs.Setup.{case_of};
+ghost use Rattle.bf_parts.specs.Sides.{gives};
+ghost use Rattle.bf_stages.specs.Snapshots.{given_part};
+ghost use Rattle.bf_forest.specs.Locals.{part_in, strips_in};
+ghost use Rattle.bf_forest.specs.Ready.{CanTell, CanSend, CanFinish};
+ghost use Rattle.bf_forest.specs.Rounds.{play_of, strips_to};
 
-use crate::blocks::copies;
-use crate::{ForestLocal, ForestMessage, Stage};
-use bf_block::{Memory, Setup};
+use crate::step::step;
+use crate::strips::tell_all;
+use crate::{ForestLocal, Setup, Stage};
+use bf_block::Memory;
 use bf_buddy::Members;
-use bf_parts::{append, gives, regained, source_of};
+use bf_ghost::Strip;
+use bf_items::Items;
+use bf_msg::{LinkedBlock, Message, copies};
+use bf_parts::{append, gives, source_of};
 use bf_program::Epoch;
 use std::alloc::Global;
 
-/// The message to a peer: copies of all blocks, or the part of the new snapshot for the buddy.
-#[tactic(auto, unfolding(crate::specs::Meanings::told))]
-pub fn told(
+// What a rank's blocks tell those of another rank.
+fn told(alloc: Global, setup: &Setup, local: &ForestLocal, to: u32) -> Result<Items<Strip>, Memory>
+    requires { CanTell (case_of setup.now) local.now }
+    ensures { IfOk result (λ strips. strips ≡ strips_to (case_of setup.now).roots to local.now.blocks) }
+{
+    let mut strips = Vec::new(alloc);
+    tell_all(
+        alloc,
+        &mut strips,
+        local.blocks.as_slice(),
+        to,
+        setup.roots(),
+    )?;
+    Ok(Items::of(strips))
+}
+
+// A copy of all blocks for the buddy, and none for others.
+fn given(
     alloc: Global,
-    stage: Stage,
     members: Members,
     shift: u32,
     local: &ForestLocal,
     to: u32,
-) -> Result<ForestMessage, Memory>
-    ensures { IfOk result (λ msg. msg ≡ told stage members shift local.now to) }
+) -> Result<Option<Items<LinkedBlock>>, Memory>
+    ensures { IfOk result (λ part. part ≡ given_part (gives members shift local.now.rank to) local.now.blocks) }
+{
+    if gives(members, shift, local.rank, to) {
+        Ok(Some(copies(alloc, local.blocks.as_slice())?))
+    } else {
+        Ok(None)
+    }
+}
+
+/// The message to a peer: what its blocks are told, or the part of the new snapshot for the buddy.
+pub fn send(
+    alloc: Global,
+    setup: &Setup,
+    stage: Stage,
+    epoch: Epoch,
+    local: &ForestLocal,
+    to: u32,
+) -> Result<Message, Memory>
+    requires { CanSend (case_of setup.now) stage local.now }
+    ensures { IfOk result (λ msg. ((play_of (case_of setup.now) epoch stage).out local.now to) ≡ (local.now, msg)) }
 {
     match stage {
-        Stage::Step { .. } => Ok(ForestMessage::Step(copies(alloc, local.blocks.as_slice())?)),
-        Stage::Snapshot => Ok(ForestMessage::Snapshot(if gives(members, shift, local.rank, to) {
-            Some(copies(alloc, local.blocks.as_slice())?)
-        } else {
-            None
-        })),
-        Stage::Over => Ok(ForestMessage::Snapshot(None)),
+        Stage::Step { .. } => Ok(Message::Step(told(alloc, setup, local, to)?)),
+        Stage::Snapshot => {
+            let part = given(alloc, epoch.members, setup.shift(), local, to)?;
+            Ok(Message::Snapshot(part))
+        }
+        Stage::Over => Ok(Message::Snapshot(None)),
+    }
+}
+
+fn strips_in(alloc: Global, msg: Message) -> Items<Strip>
+    ensures { result ≡ strips_in msg }
+{
+    match msg {
+        Message::Step(strips) => strips,
+        Message::Snapshot(_) => Items::new(alloc),
+    }
+}
+
+fn part_in(msg: Message) -> Option<Items<LinkedBlock>>
+    ensures { result ≡ part_in msg }
+{
+    match msg {
+        Message::Step(_) => None,
+        Message::Snapshot(part) => part,
     }
 }
 
 /// Takes a peer's message.
-#[tactic(auto, unfolding(crate::specs::Meanings::heard_of))]
-pub fn hear(local: &mut ForestLocal, msg: ForestMessage) -> Result<(), Memory>
-    ensures { OnOk result (local.new ≡ heard_of local.old msg) }
+pub fn hear(
+    alloc: Global,
+    setup: &Setup,
+    stage: Stage,
+    epoch: Epoch,
+    local: &mut ForestLocal,
+    peer: u32,
+    msg: Message,
+) -> Result<(), Memory>
+    ensures { OnOk result (local.new ≡ (play_of (case_of setup.now) epoch stage).hear local.old peer msg) }
 {
-    match msg {
-        ForestMessage::Step(blocks) => append(&mut local.heard, blocks),
-        ForestMessage::Snapshot(Some(part)) => {
-            local.spare.other = part;
+    match stage {
+        Stage::Step { .. } => append(&mut local.heard, strips_in(alloc, msg)),
+        Stage::Snapshot => {
+            if let Some(part) = part_in(msg) {
+                local.spare.other = part;
+            }
             Ok(())
         }
-        ForestMessage::Snapshot(None) => Ok(()),
+        Stage::Over => Ok(()),
     }
 }
 
-/// Makes the new snapshot.
-#[tactic(auto, unfolding(crate::specs::Meanings::ended))]
-pub fn snap(
-    alloc: Global,
-    setup: &Setup,
-    local: &mut ForestLocal,
-    epoch: Epoch,
-) -> Result<(), Memory>
-    ensures { OnOk result (local.new ≡ ended Stage.Snapshot (case_of setup.now) epoch local.old) }
+// Makes the new snapshot.
+fn snap(alloc: Global, setup: &Setup, epoch: Epoch, local: &mut ForestLocal) -> Result<(), Memory>
+    ensures { OnOk result (local.new ≡ (play_of (case_of setup.now) epoch Stage.Snapshot).finish local.old) }
 {
     local.spare.own = copies(alloc, local.blocks.as_slice())?;
     local.spare.time = epoch.target;
@@ -65,20 +127,20 @@ pub fn snap(
     Ok(())
 }
 
-/// Goes back to the agreed snapshot, as one of the live.
-#[tactic(auto, unfolding(crate::specs::Meanings::restored))]
-pub fn go_back(
+/// Ends a round.
+pub fn end(
     alloc: Global,
+    setup: &Setup,
+    stage: Stage,
+    epoch: Epoch,
     local: &mut ForestLocal,
-    shift: u32,
-    rank: u32,
-    live: Members,
 ) -> Result<(), Memory>
-    ensures { OnOk result (local.new ≡ restored local.old.active shift rank live) }
+    requires { CanFinish (case_of setup.now) stage local.old }
+    ensures { OnOk result (local.new ≡ (play_of (case_of setup.now) epoch stage).finish local.old) }
 {
-    local.blocks = regained(alloc, &local.active, live, shift)?;
-    local.rank = rank;
-    local.heard.clear();
-    local.spare.clear();
-    Ok(())
+    match stage {
+        Stage::Step { .. } => step(alloc, setup, local),
+        Stage::Snapshot => snap(alloc, setup, epoch, local),
+        Stage::Over => Ok(()),
+    }
 }

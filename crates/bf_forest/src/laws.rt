@@ -1,5 +1,5 @@
 //! What holds of all ranks together, each law the contract of a call that does nothing.
-ghost use Rattle.std.specs.Prelude.{◌≡◌, ℕ, ◌+◌, ◌-◌, ◌<◌, ◌≤◌, Bool, IsTrue, List, None, filter, map};
+ghost use Rattle.std.specs.Prelude.{◌≡◌, ◌↔◌, ℕ, ◌+◌, ◌-◌, ◌<◌, ◌≤◌, Bool, IsTrue, List, None, All, Contains, filter, map};
 ghost use Rattle.std.specs.List.{flat_map};
 ghost use Rattle.bf_buddy.specs.Members.{is_member};
 ghost use Rattle.bf_buddy.specs.Losses.{first_lost_of};
@@ -13,14 +13,15 @@ ghost use Rattle.bf_rounds.specs.Canonical.{IsSendingTold, IsHearingTold, IsFini
 ghost use Rattle.bf_stages.specs.Stages.{telling_of};
 ghost use Rattle.bf_id.specs.Id.{BlockId};
 ghost use Rattle.bf_case.specs.Model.{model};
-ghost use Rattle.bf_block.specs.declared.setup.Setup.{Setup};
-ghost use Rattle.bf_block.specs.Setup.{case_of};
+ghost use Rattle.bf_forest.specs.declared.setup.Setup.{Setup};
+ghost use Rattle.bf_forest.specs.Setup.{case_of};
 ghost use Rattle.bf_forest.specs.declared.local.ForestLocal.{ForestLocal};
-ghost use Rattle.bf_forest.specs.declared.message.ForestMessage.{ForestMessage};
-ghost use Rattle.bf_forest.specs.Goods.{IsGood, AreDealt};
-ghost use Rattle.bf_forest.specs.Leaves.{AreLeaves};
+ghost use Rattle.bf_msg.specs.declared.message.Message.{Message};
+ghost use Rattle.bf_forest.specs.Goods.{IsGood, AreDealt, AreNeighbors, HasLinked};
+ghost use Rattle.bf_forest.specs.Leaves.{AreLeaves, bare_blocks};
 ghost use Rattle.bf_forest.specs.Meanings.{forest, pieces};
-ghost use Rattle.bf_stages.specs.Plans.{rounds_of};
+ghost use Rattle.bf_ghost.specs.Telling.{told_strips};
+ghost use Rattle.bf_stages.specs.Plans.{rounds_of, span};
 ghost use Rattle.bf_forest.specs.Stages.{forest_plan, time_at};
 ghost use Rattle.bf_forest.specs.Staging.{forest_staging};
 
@@ -56,7 +57,7 @@ pub fn the_forest_stays_good()
 /// its cells, each leaf once.
 pub fn the_blocks_are_the_models_leaves()
     ensures { (setup : Setup) (epoch : Epoch) (round : ℕ) (locals : List ForestLocal) → IsGood setup epoch round locals
-        → AreLeaves (model (case_of setup) (time_at epoch round)) (flat_map (λ (local : ForestLocal). local.blocks) locals) }
+        → AreLeaves (model (case_of setup) (time_at epoch round)) (flat_map (λ (local : ForestLocal). bare_blocks local.blocks) locals) }
 {}
 
 /// At the beginning of each round a member has the model's blocks of the ids that it owns, by rising id, and nothing that
@@ -67,10 +68,35 @@ pub fn each_member_has_its_blocks_in_order()
         → (owner : BlockId → ℕ) × (home : BlockId → ℕ) × AreDealt (case_of setup) epoch round owner home locals }
 {}
 
+/// A member's blocks are the model's leaves of the round's time that it owns, each linked with exactly the leaves that touch it and with
+/// their owners. Of the agreed snapshot it has those of which it is the home, and copies of those of the member whose buddy it is,
+/// linked with the leaves of the agreed time and their homes. Each home of a block, or its buddy, is a member.
+pub fn each_block_is_linked_with_the_leaves_that_touch_it()
+    ensures { (setup : Setup) (epoch : Epoch) (round : ℕ) (locals : List ForestLocal) → IsGood setup epoch round locals
+        → (owner : BlockId → ℕ) × (home : BlockId → ℕ) × AreDealt (case_of setup) epoch round owner home locals × All (HasLinked (case_of setup) epoch round owner home) locals }
+{}
+
+/// In a step's round the peers of a member are the other members that own a leaf which touches one of its own.
+pub fn a_steps_peers_own_leaves_that_touch()
+    ensures { (setup : Setup) (epoch : Epoch) (round : ℕ) (locals : List ForestLocal) → IsGood setup epoch round locals → round < span epoch
+        → (owner : BlockId → ℕ) × (home : BlockId → ℕ) × AreDealt (case_of setup) epoch round owner home locals
+        × ((local : ForestLocal) (other : ℕ) → Contains locals local
+        → (Contains (forest.peers setup local epoch round) other ↔ (Contains epoch.members other × AreNeighbors (case_of setup) (time_at epoch round) owner local.rank other))) }
+{}
+
+/// And what it tells a rank are the strips of the model's leaves: one for each leaf of its own and each leaf of the other that share
+/// a face, by the ids of its own leaves and then of the other's, and nothing else.
+pub fn a_step_tells_what_lies_at_shared_faces()
+    ensures { (setup : Setup) (epoch : Epoch) (round : ℕ) (locals : List ForestLocal) → IsGood setup epoch round locals → round < span epoch
+        → (owner : BlockId → ℕ) × (home : BlockId → ℕ) × AreDealt (case_of setup) epoch round owner home locals
+        × ((local : ForestLocal) (to : ℕ) → Contains locals local
+        → (forest.out setup local epoch round to).1 ≡ Message.Step (told_strips (case_of setup).roots (model (case_of setup) (time_at epoch round)) owner local.rank to)) }
+{}
+
 /// Once all rounds are done, what the members give are the leaves of the model's map at the epoch's target.
 pub fn an_epoch_ends_at_the_model()
     ensures { (setup : Setup) (epoch : Epoch) (locals : List ForestLocal) → IsGood setup epoch (rounds_of forest_plan epoch) locals
-        → AreLeaves (model (case_of setup) epoch.target) (flat_map (λ (local : ForestLocal). (forest.parcel local).1) locals) }
+        → AreLeaves (model (case_of setup) epoch.target) (flat_map (λ (local : ForestLocal). bare_blocks (forest.parcel local).1) locals) }
 {}
 
 /// After a commit each member goes on with the blocks that it has, and is their home in the new agreed snapshot.
@@ -86,7 +112,7 @@ pub fn a_commit_makes_owners_homes()
 pub fn a_restore_rebuilds_the_agreed_map()
     ensures { (setup : Setup) (epoch : Epoch) (round : ℕ) (locals : List ForestLocal) (lives : ℕ → Bool) → IsGood setup epoch round locals
         → first_lost_of epoch.homes (forest.stored locals) (filter lives epoch.members) (forest.shift setup) ≡ None
-        → AreLeaves (model (case_of setup) epoch.time) (flat_map (λ (local : ForestLocal). local.blocks) (restored_locals forest setup epoch lives locals)) }
+        → AreLeaves (model (case_of setup) epoch.time) (flat_map (λ (local : ForestLocal). bare_blocks local.blocks) (restored_locals forest setup epoch lives locals)) }
 {}
 
 /// And each live member goes on with exactly those blocks of the model whose home is itself or the dead home whose buddy
@@ -107,7 +133,7 @@ pub fn a_sender_knows_its_local()
 
 /// One that hears a peer has heard those before it alone, and the message is what the peer tells it.
 pub fn a_receiver_knows_its_local()
-    ensures { (setup : Setup) (epoch : Epoch) (round : ℕ) (peer : ℕ) (msg : ForestMessage) (local : ForestLocal) → IsReceiving forest IsGood setup epoch round peer msg local
+    ensures { (setup : Setup) (epoch : Epoch) (round : ℕ) (peer : ℕ) (msg : Message) (local : ForestLocal) → IsReceiving forest IsGood setup epoch round peer msg local
         → IsHearingTold forest (telling_of forest forest_staging) setup epoch round peer msg local }
 {}
 

@@ -1,23 +1,27 @@
-//! The rank program of the block forest: its ranks own the blocks, tell each other their cells, step them, and make a
-//! snapshot at the end of an epoch, which each keeps for itself and for the member whose buddy it is.
+//! The rank program of the block forest.
+//!
+//! Its ranks own the blocks, each with links to the leaves that touch it and their owners. In a step's round neighbours, which own
+//! leaves that touch, tell each other's blocks what lies beside them, and all blocks are stepped; at the end of an epoch they make
+//! a snapshot, which each keeps for itself and for the member whose buddy it is. All that can differ between two runs at the same
+//! point is who owns what.
 #![tactic(auto)]
 
-mod blocks;
 mod calls;
-mod known;
 pub mod laws;
 mod local;
-mod message;
 mod opening;
+mod peers;
 mod program;
+mod setup;
 mod stage;
 mod start;
 mod step;
+mod strips;
 
 pub use local::ForestLocal;
-pub use message::ForestMessage;
 pub use opening::load;
 pub use program::Forest;
+pub use setup::Setup;
 pub use stage::Stage;
 pub use start::laid;
 

@@ -1,82 +1,121 @@
 //! The ranks' locals at the opening.
 ghost use Rattle.std.specs.Prelude.{◌≡◌, ◌<◌, map, IfOk};
 ghost use Rattle.std.specs.List.{range_with_len};
-ghost use Rattle.bf_block.specs.Setup.{case_of};
-ghost use Rattle.bf_forest.specs.Meanings.{first_blocks, other_first, unfilled, forest};
+ghost use Rattle.bf_id.specs.Id.{root_id};
+ghost use Rattle.bf_id.specs.Shape.{root_count};
+ghost use Rattle.bf_forest.specs.Setup.{case_of};
+ghost use Rattle.bf_parts.specs.Leaves.{copy_at, part_of};
+ghost use Rattle.bf_forest.specs.Meanings.{forest};
+ghost use Rattle.bf_forest.specs.ModelBlocks.{blocks_at, first_home, linked_at};
+ghost use Rattle.bf_forest.specs.Opening.{first_owners, first_parts, unfilled};
 
-use crate::ForestLocal;
-use crate::blocks::copies;
-use bf_block::{Block, Memory, Opening, Setup};
+use crate::{ForestLocal, Setup};
+use bf_block::{Block, Memory, Opening};
 use bf_buddy::Members;
 use bf_items::Items;
+use bf_links::Links;
+use bf_msg::{LinkedBlock, copies};
 use bf_parts::Side;
 use std::alloc::Global;
 
-// The roots that begin at a rank, filled.
-fn first_blocks(
+// The rank at which each root begins.
+fn first_owners(alloc: Global, setup: &Setup) -> Result<Vec<u32>, Memory>
+    ensures { IfOk result (λ owners. owners.items ≡ first_owners (case_of setup.now)) }
+{
+    let count = setup.root_count();
+    let mut owners = Vec::with_capacity(alloc, count as usize)?;
+    for root in 0..count {
+        owners.push(setup.root_rank(root))?;
+    }
+    Ok(owners)
+}
+
+// A root, filled, with its links.
+fn first_block(
     alloc: Global,
     opening: &Opening,
     setup: &Setup,
+    owners: &[u32],
+    root: u32,
+) -> Result<LinkedBlock, Memory>
+    requires opening { opening.now ≡ case_of setup.now }
+    requires owners { owners.now ≡ first_owners (case_of setup.now) }
+    requires root { root < root_count (case_of setup.now).roots }
+    ensures { IfOk result (λ linked. linked ≡ linked_at (case_of setup.now) 0 (first_home (case_of setup.now)) (root_id root)) }
+{
+    let block = Block::initial(alloc, opening, root)?;
+    let links = Links::of_root(alloc, root, owners, setup.roots())?;
+    Ok(LinkedBlock { block, links })
+}
+
+// The roots that begin at a rank.
+fn first_part(
+    alloc: Global,
+    opening: &Opening,
+    setup: &Setup,
+    owners: &[u32],
     rank: u32,
-) -> Result<Items<Block>, Memory>
-    requires { opening.now ≡ case_of setup.now }
-    ensures { IfOk result (λ blocks. blocks ≡ first_blocks (case_of setup.now) rank) }
+) -> Result<Items<LinkedBlock>, Memory>
+    requires opening { opening.now ≡ case_of setup.now }
+    requires owners { owners.now ≡ first_owners (case_of setup.now) }
+    ensures { IfOk result (λ blocks. blocks ≡ part_of (blocks_at (case_of setup.now) 0) (first_home (case_of setup.now)) rank) }
 {
     let mut blocks = Vec::new(alloc);
     for root in 0..setup.root_count() {
         if setup.root_rank(root) == rank {
-            blocks.push(Block::initial(alloc, opening, root)?)?;
+            blocks.push(first_block(alloc, opening, setup, owners, root)?)?;
         }
     }
     Ok(Items::of(blocks))
 }
 
 // The roots that begin at each rank.
-fn all_first_blocks(
+fn first_parts(
     alloc: Global,
     opening: &Opening,
     setup: &Setup,
-) -> Result<Vec<Items<Block>>, Memory>
+) -> Result<Vec<Items<LinkedBlock>>, Memory>
     requires { opening.now ≡ case_of setup.now }
-    ensures { IfOk result (λ firsts. firsts.items ≡ map (first_blocks (case_of setup.now)) (range_with_len 0 (case_of setup.now).ranks)) }
+    ensures { IfOk result (λ parts. parts.items ≡ first_parts (case_of setup.now)) }
 {
-    let mut firsts = Vec::new(alloc);
+    let owners = first_owners(alloc, setup)?;
+    let mut parts = Vec::new(alloc);
     for rank in 0..setup.ranks() {
-        firsts.push(first_blocks(alloc, opening, setup, rank)?)?;
+        parts.push(first_part(alloc, opening, setup, owners.as_slice(), rank)?)?;
     }
-    Ok(firsts)
+    Ok(parts)
 }
 
-// Copies of the roots that begin at a rank.
-fn copied_first(
+// A copy of the part of a rank.
+fn copied_part(
     alloc: Global,
     setup: &Setup,
-    firsts: &[Items<Block>],
+    parts: &[Items<LinkedBlock>],
     rank: u32,
-) -> Result<Items<Block>, Memory>
-    requires firsts { firsts.now ≡ map (first_blocks (case_of setup.now)) (range_with_len 0 (case_of setup.now).ranks) }
+) -> Result<Items<LinkedBlock>, Memory>
+    requires parts { parts.now ≡ first_parts (case_of setup.now) }
     requires rank { rank < (case_of setup.now).ranks }
-    ensures { IfOk result (λ blocks. blocks ≡ first_blocks (case_of setup.now) rank) }
+    ensures { IfOk result (λ blocks. blocks ≡ part_of (blocks_at (case_of setup.now) 0) (first_home (case_of setup.now)) rank) }
 {
-    copies(alloc, firsts[rank as usize].as_slice())
+    copies(alloc, parts[rank as usize].as_slice())
 }
 
-// The predecessor's part of the opening's snapshot, where that is another rank.
+// A copy of the predecessor's part, where that is another rank.
 fn copied_other(
     alloc: Global,
     setup: &Setup,
-    firsts: &[Items<Block>],
+    parts: &[Items<LinkedBlock>],
     rank: u32,
     source: u32,
-) -> Result<Items<Block>, Memory>
-    requires firsts { firsts.now ≡ map (first_blocks (case_of setup.now)) (range_with_len 0 (case_of setup.now).ranks) }
+) -> Result<Items<LinkedBlock>, Memory>
+    requires parts { parts.now ≡ first_parts (case_of setup.now) }
     requires source { source < (case_of setup.now).ranks }
-    ensures { IfOk result (λ blocks. blocks ≡ other_first (case_of setup.now) rank source) }
+    ensures { IfOk result (λ blocks. blocks ≡ copy_at (blocks_at (case_of setup.now) 0) (first_home (case_of setup.now)) rank source) }
 {
     if source == rank {
         Ok(Items::new(alloc))
     } else {
-        copied_first(alloc, setup, firsts, source)
+        copied_part(alloc, setup, parts, source)
     }
 }
 
@@ -85,10 +124,10 @@ fn copied_other(
 fn unfilled(
     alloc: Global,
     setup: &Setup,
-    firsts: &[Items<Block>],
+    parts: &[Items<LinkedBlock>],
     rank: u32,
 ) -> Result<ForestLocal, Memory>
-    requires firsts { firsts.now ≡ map (first_blocks (case_of setup.now)) (range_with_len 0 (case_of setup.now).ranks) }
+    requires parts { parts.now ≡ first_parts (case_of setup.now) }
     requires rank { rank < (case_of setup.now).ranks }
     ensures { IfOk result (λ local. local ≡ unfilled (case_of setup.now) rank) }
 {
@@ -98,8 +137,8 @@ fn unfilled(
         time: 0,
         homes,
         source,
-        own: copied_first(alloc, setup, firsts, rank)?,
-        other: copied_other(alloc, setup, firsts, rank, source)?,
+        own: copied_part(alloc, setup, parts, rank)?,
+        other: copied_other(alloc, setup, parts, rank, source)?,
     };
     Ok(ForestLocal {
         rank,
@@ -114,28 +153,28 @@ fn unfilled(
 fn all_unfilled(
     alloc: Global,
     setup: &Setup,
-    firsts: &[Items<Block>],
+    parts: &[Items<LinkedBlock>],
 ) -> Result<Vec<ForestLocal>, Memory>
-    requires { firsts.now ≡ map (first_blocks (case_of setup.now)) (range_with_len 0 (case_of setup.now).ranks) }
+    requires { parts.now ≡ first_parts (case_of setup.now) }
     ensures { IfOk result (λ locals. locals.items ≡ map (unfilled (case_of setup.now)) (range_with_len 0 (case_of setup.now).ranks)) }
 {
     let mut locals = Vec::new(alloc);
     for rank in 0..setup.ranks() {
-        locals.push(unfilled(alloc, setup, firsts, rank)?)?;
+        locals.push(unfilled(alloc, setup, parts, rank)?)?;
     }
     Ok(locals)
 }
 
 /// The ranks' locals at the opening, which is spent. The opening is the agreed snapshot of time 0, at each home and at
-/// its buddy.
+/// its buddy. Each root is linked with the roots that touch it, which are looked for at the places beside it alone.
 pub fn load(alloc: Global, opening: Opening, setup: &Setup) -> Result<Vec<ForestLocal>, Memory>
     requires { opening ≡ case_of setup.now }
     ensures { IfOk result (λ locals. locals.items ≡ forest.opening setup.now) }
 {
-    let firsts = all_first_blocks(alloc, &opening, setup)?;
-    let unfilled = all_unfilled(alloc, setup, firsts.as_slice())?;
+    let parts = first_parts(alloc, &opening, setup)?;
+    let unfilled = all_unfilled(alloc, setup, parts.as_slice())?;
     let mut locals = Vec::with_capacity(alloc, unfilled.len())?;
-    for (mut local, blocks) in unfilled.into_iter().zip(firsts) {
+    for (mut local, blocks) in unfilled.into_iter().zip(parts) {
         local.blocks = blocks;
         locals.push(local)?;
     }

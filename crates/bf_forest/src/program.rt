@@ -1,11 +1,11 @@
-use crate::blocks::measured;
-use crate::calls::{go_back, hear, snap, told};
+use crate::calls::{end, hear, send};
+use crate::peers::peers_of;
 use crate::stage::{rounds, stage_of};
-use crate::step::step;
-use crate::{ForestLocal, ForestMessage, Stage};
-use bf_block::{Block, Setup};
+use crate::{ForestLocal, Setup};
 use bf_buddy::Members;
 use bf_items::Items;
+use bf_msg::{LinkedBlock, Message};
+use bf_parts::regained;
 use bf_program::{Epoch, Measure, Memory, RankProgram, target_of};
 use std::alloc::Global;
 use std::mem;
@@ -15,7 +15,7 @@ pub struct Forest;
 
 impl RankProgram for Forest {
     ghost use Rattle.bf_id.specs.Cube.{Cube, Voxel};
-    ghost use Rattle.bf_block.specs.Block.{BlockValue};
+    ghost use Rattle.bf_msg.specs.declared.linked_block.LinkedBlock.{LinkedBlock};
     ghost use Rattle.bf_parts.specs.declared.side.Side.{Side};
     ghost use Rattle.bf_forest.specs.ForestLaws.{lawful_forest};
     ghost use Rattle.bf_forest.specs.Goods.{IsGood};
@@ -25,11 +25,11 @@ impl RankProgram for Forest {
 
     type Local = ForestLocal;
 
-    type Msg = ForestMessage;
+    type Msg = Message;
 
-    type Part = Items<Block>;
+    type Part = Items<LinkedBlock>;
 
-    ghost Saved = { Side BlockValue };
+    ghost Saved = { Side LinkedBlock };
 
     ghost Cube = { Cube };
 
@@ -70,7 +70,7 @@ impl RankProgram for Forest {
     }
 
     fn peers(setup: &Setup, local: &ForestLocal, epoch: Epoch, round: u32) -> Members {
-        epoch.members.without(local.rank)
+        peers_of(stage_of(&epoch, round), epoch.members, setup.shift(), local)
     }
 
     fn out(
@@ -80,15 +80,8 @@ impl RankProgram for Forest {
         epoch: Epoch,
         round: u32,
         to: u32,
-    ) -> Result<ForestMessage, Memory> {
-        told(
-            alloc,
-            stage_of(&epoch, round),
-            epoch.members,
-            setup.shift(),
-            local,
-            to,
-        )
+    ) -> Result<Message, Memory> {
+        send(alloc, setup, stage_of(&epoch, round), epoch, local, to)
     }
 
     fn take(
@@ -98,12 +91,19 @@ impl RankProgram for Forest {
         epoch: Epoch,
         round: u32,
         peer: u32,
-        msg: ForestMessage,
+        msg: Message,
     ) -> Result<(), Memory> {
-        hear(local, msg)
+        hear(
+            alloc,
+            setup,
+            stage_of(&epoch, round),
+            epoch,
+            local,
+            peer,
+            msg,
+        )
     }
 
-    #[tactic(auto, unfolding(crate::specs::Meanings::ended))]
     fn finish(
         alloc: Global,
         setup: &Setup,
@@ -111,18 +111,14 @@ impl RankProgram for Forest {
         epoch: Epoch,
         round: u32,
     ) -> Result<(), Memory> {
-        match stage_of(&epoch, round) {
-            Stage::Step { .. } => step(alloc, setup, local),
-            Stage::Snapshot => snap(alloc, setup, local, epoch),
-            Stage::Over => Ok(()),
-        }
+        end(alloc, setup, stage_of(&epoch, round), epoch, local)
     }
 
     fn filled(local: &ForestLocal) -> bool {
         local.spare.own.len() != 0
     }
 
-    fn parcel(local: &mut ForestLocal) -> Items<Block> {
+    fn parcel(local: &mut ForestLocal) -> Items<LinkedBlock> {
         local.blocks.moved()
     }
 
@@ -138,15 +134,15 @@ impl RankProgram for Forest {
         rank: u32,
         epoch: Epoch,
     ) -> Result<(), Memory> {
-        go_back(alloc, local, setup.shift(), rank, epoch.members)
+        local.blocks = regained(alloc, &local.active, epoch.members, setup.shift())?;
+        local.rank = rank;
+        local.heard.clear();
+        local.spare.clear();
+        Ok(())
     }
 
-    fn measure(msg: &ForestMessage) -> Measure {
-        match msg {
-            ForestMessage::Step(blocks) => measured(blocks.as_slice()),
-            ForestMessage::Snapshot(Some(part)) => measured(part.as_slice()),
-            ForestMessage::Snapshot(None) => measured(&[]),
-        }
+    fn measure(msg: &Message) -> Measure {
+        msg.measure()
     }
 
     ghost lawful = { lawful_forest };

@@ -1,10 +1,10 @@
 //! Which ranks begin with a block.
 ghost use Rattle.std.specs.Prelude.{◌≡◌};
-ghost use Rattle.bf_block.specs.Setup.{case_of};
+ghost use Rattle.bf_forest.specs.Setup.{case_of};
 ghost use Rattle.bf_forest.specs.Meanings.{forest};
 ghost use Rattle.bf_forest.specs.Starts.{starts};
 
-use bf_block::Setup;
+use crate::Setup;
 use bf_buddy::Members;
 
 // Whether a root begins at a rank.

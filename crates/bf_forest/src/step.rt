@@ -1,58 +1,78 @@
 //! A step of a rank's blocks.
-ghost use Rattle.std.specs.Prelude.{◌≡◌, ℕ, [], ◌++◌, All, map, take, IfOk, OnOk};
-ghost use Rattle.bf_block.specs.Block.{kept_block};
-ghost use Rattle.bf_block.specs.Setup.{case_of};
-ghost use Rattle.bf_forest.specs.Gathered.{stepped_among};
-ghost use Rattle.bf_forest.specs.Known.{CanAdvance};
-ghost use Rattle.bf_forest.specs.Ready.{CanBeKept, IsReady, next_block};
+ghost use Rattle.std.specs.Prelude.{◌≡◌, [], ℕ, All, IfOk, OnOk, map};
+ghost use Rattle.std.specs.List.{zip};
+ghost use Rattle.bf_forest.specs.Setup.{case_of};
+ghost use Rattle.bf_forest.specs.Ready.{IsBetween, IsPairBetween, IsReady};
+ghost use Rattle.bf_forest.specs.Rounds.{stepped_all, stepped_between, stepped_pair};
 
-use crate::ForestLocal;
-use crate::known::Known;
-use bf_block::{Block, Memory, Setup};
-use bf_case::surround;
+use crate::strips::{grouped, tell_all};
+use crate::{ForestLocal, Setup};
+use bf_block::Memory;
 use bf_cells::Shell;
+use bf_ghost::{Strip, step as step_between};
 use bf_items::Items;
+use bf_msg::LinkedBlock;
 use std::alloc::Global;
 
-// The own blocks after their regrid, and then the others.
-fn kept_first(alloc: Global, own: Items<Block>, others: Items<Block>) -> Result<Vec<Block>, Memory>
-    requires { All CanBeKept own }
-    ensures { IfOk result (λ all. all.items ≡ map kept_block own ++ others) }
+// A block one step later, between what it is told.
+fn stepped(
+    alloc: Global,
+    setup: &Setup,
+    shell: &mut Shell,
+    linked: LinkedBlock,
+    strips: &[Strip],
+) -> Result<LinkedBlock, Memory>
+    requires block { (time : ℕ) × IsBetween (case_of setup.now) time strips.now linked }
+    requires side { shell.old.side ≡ (case_of setup.now).side }
+    ensures block { IfOk result (λ next. next ≡ stepped_between strips.now linked) }
+    ensures side { shell.new.side ≡ shell.old.side }
 {
-    let mut all = Vec::with_capacity(alloc, own.len())?;
-    for block in own.into_vec() {
-        all.push(block.kept())?;
+    let LinkedBlock { block, links } = linked;
+    match step_between(alloc, shell, block.kept(), strips, setup.roots()) {
+        Ok(block) => {
+            let _model = block.cells();
+            Ok(LinkedBlock { block, links })
+        }
+        Err(_) => Err(Memory),
     }
-    all.append(&mut others.into_vec())?;
-    Ok(all)
 }
 
-// The first of the known blocks, one step later. One shell serves them all.
-fn advance(alloc: Global, setup: &Setup, known: &Known, count: usize) -> Result<Vec<Block>, Memory>
-    requires { (time : ℕ) × CanAdvance (case_of setup.now) time known.now count }
-    ensures { IfOk result (λ blocks. blocks.items ≡ map (next_block (case_of setup.now)) (take count known.now.blocks.items)) }
+// Blocks one step later, each between the strips beside it. One shell serves them all.
+fn all_stepped(
+    alloc: Global,
+    setup: &Setup,
+    blocks: Items<LinkedBlock>,
+    groups: Vec<Vec<Strip>>,
+) -> Result<Items<LinkedBlock>, Memory>
+    requires { (time : ℕ) × All (IsPairBetween (case_of setup.now) time) (zip blocks (map (λ group. group.items) groups.items)) }
+    ensures { IfOk result (λ all. all ≡ map stepped_pair (zip blocks (map (λ group. group.items) groups.items))) }
 {
     let mut shell = Shell::blank(alloc, setup.side())?;
-    let mut stepped = Vec::with_capacity(alloc, count)?;
-    for place in 0..count {
-        let block = &known.blocks[place];
-        surround(&mut shell, setup.roots(), known, block.id().root() as usize);
-        stepped.push(block.advanced(alloc, &shell)?)?;
+    let mut all = Vec::with_capacity(alloc, blocks.len())?;
+    for (linked, strips) in blocks.into_vec().into_iter().zip(groups) {
+        let next = stepped(alloc, setup, &mut shell, linked, strips.as_slice())?;
+        all.push(next)?;
     }
-    Ok(stepped)
+    Ok(Items::of(all))
 }
 
-/// A step of a rank's blocks, of which all others that it has heard of are copies. They are let go.
+/// A step of a rank's blocks, between what other ranks told them and what they tell each other. What was told is let go.
 pub fn step(alloc: Global, setup: &Setup, local: &mut ForestLocal) -> Result<(), Memory>
     requires { (time : ℕ) × IsReady (case_of setup.now) time local.old }
     ensures { OnOk result (local.new ≡ (record local.old {
-      blocks = stepped_among (case_of setup.now) (local.old.blocks ++ local.old.heard) local.old.blocks;
+      blocks = stepped_all (case_of setup.now).roots local.old.rank local.old.heard local.old.blocks;
       heard = [];
     })) }
 {
-    let count = local.blocks.len();
-    let blocks = kept_first(alloc, local.blocks.moved(), local.heard.moved())?;
-    let known = Known::of(alloc, setup.root_count() as usize, blocks)?;
-    local.blocks = Items::of(advance(alloc, setup, &known, count)?);
+    let mut strips = local.heard.moved().into_vec();
+    tell_all(
+        alloc,
+        &mut strips,
+        local.blocks.as_slice(),
+        local.rank,
+        setup.roots(),
+    )?;
+    let groups = grouped(alloc, local.blocks.as_slice(), strips)?;
+    local.blocks = all_stepped(alloc, setup, local.blocks.moved(), groups)?;
     Ok(())
 }

@@ -2,8 +2,11 @@ use Rattle.bf_cli.proofs.AnswerLemmas.{no_regrid, ranks_answer}
 use Rattle.bf_cli.proofs.DrivenLemmas.{has_run}
 use Rattle.bf_cli.proofs.top.run_case.Goals as goal
 
-pub run-requires : goal.run-requires
-run-requires c = record { valid = c.requires.valid; no_regrid = no_regrid c.args.command c.args.case c.in-Drive.is c.requires.served }
+pub run-requires-clause-runs : goal.run-requires-clause-runs
+run-requires-clause-runs c = record { valid = c.requires.valid }
+
+pub run-requires-clause-no_regrid : goal.run-requires-clause-no_regrid
+run-requires-clause-no_regrid c = no_regrid c.args.command c.args.case c.in-Drive.is c.requires.served
 
 pub returns-in_ok-world-in-Drive : goal.returns-in_ok-world-in-Drive
 returns-in_ok-world-in-Drive c =

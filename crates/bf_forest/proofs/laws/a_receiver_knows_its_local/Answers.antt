@@ -1,4 +1,4 @@
-use Rattle.bf_forest.proofs.Finishing.{knows_receiving}
+use Rattle.bf_forest.proofs.PointSteps.{knows_receiving}
 use Rattle.bf_forest.proofs.laws.a_receiver_knows_its_local.Goals as goal
 
 pub returns : goal.returns

@@ -1,4 +1,4 @@
-use Rattle.bf_forest.proofs.Finishing.{knows_sending}
+use Rattle.bf_forest.proofs.PointSteps.{knows_sending}
 use Rattle.bf_forest.proofs.laws.a_sender_knows_its_local.Goals as goal
 
 pub returns : goal.returns

@@ -1,5 +1,5 @@
 use Rattle.std.proofs.Common.{◌≡◌, false}
-use Rattle.bf_block.specs.Setup.{case_of}
+use Rattle.bf_forest.specs.Setup.{case_of}
 use Rattle.bf_forest.proofs.StartSteps.{has_below}
 use Rattle.bf_forest.proofs.start.has_root.Given as goal
 

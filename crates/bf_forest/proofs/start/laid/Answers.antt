@@ -1,6 +1,6 @@
 use Rattle.std.proofs.Common.{sym, ap, ◌∙◌}
 use Rattle.std.specs.Prelude.{◌==◌, not, filter}
-use Rattle.bf_block.specs.Setup.{case_of}
+use Rattle.bf_forest.specs.Setup.{case_of}
 use Rattle.bf_forest.proofs.StartSteps.{laid_stays, laid_goes}
 use Rattle.bf_forest.proofs.start.laid.Goals as goal
 use Rattle.bf_forest.proofs.start.laid.Goals.{then-not-has_root, else-not-has_root}

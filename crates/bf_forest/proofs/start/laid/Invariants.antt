@@ -1,5 +1,5 @@
 use Rattle.std.proofs.Common.{◌≡◌}
-use Rattle.bf_block.specs.Setup.{case_of}
+use Rattle.bf_forest.specs.Setup.{case_of}
 use Rattle.bf_forest.proofs.StartSteps.{laid_below}
 use Rattle.bf_forest.proofs.start.laid.Given as goal
 

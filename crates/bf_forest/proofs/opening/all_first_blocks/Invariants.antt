@@ -1,8 +1,0 @@
-use Rattle.std.proofs.Common.{◌≡◌, map}
-use Rattle.std.specs.List.{range_with_len}
-use Rattle.bf_block.specs.Setup.{case_of}
-use Rattle.bf_forest.specs.Meanings.{first_blocks}
-use Rattle.bf_forest.proofs.opening.all_first_blocks.Given as goal
-
-abbrev pub invariant-loop-rank : goal.invariant-loop-rank
-invariant-loop-rank l = l.firsts.items ≡ map (first_blocks (case_of l.setup)) (range_with_len 0 l.rank)

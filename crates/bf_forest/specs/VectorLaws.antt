@@ -1,0 +1,196 @@
+-- What the members of a good vector have and tell: linked blocks, neighbours, strips.
+use Rattle.std.proofs.Common.{◌≡◌, ℕ, ◌<◌, Bool, true, false, cond, List, [], Contains, map, filter, flat_map, refl, sym, ap, subst, ◌∙◌, All}
+use Rattle.std.specs.Prelude.{◌==◌, ◌&&◌, ◌↔◌, not}
+use Rattle.std.specs.List.{list_any}
+use Rattle.std.proofs.lemmas.Bool.{and_from, and_parts, eq-eqb, eqb-true}
+use Rattle.std.proofs.lemmas.List.{map-id}
+use Rattle.std.proofs.lemmas.List.Elements.{All-nil}
+use Rattle.std.proofs.lemmas.List.Folds.{flat_map-map}
+use Rattle.bf_lemmas.proofs.Lists.{All-from_Contains, filter_mapped, map_twice}
+use Rattle.bf_id.specs.Id.{BlockId, touches}
+use Rattle.bf_case.specs.declared.case.Case.{Case}
+use Rattle.bf_case.specs.Map.{Leaf, ids_of}
+use Rattle.bf_case.specs.Model.{model}
+use Rattle.bf_case.proofs.ListLemmas.{Contains-map_cases}
+use Rattle.bf_case.proofs.TestLemmas.{touches_decides, any_from_passes, passes_from_any, Contains-filter, Contains-filter_cases}
+use Rattle.bf_links.specs.declared.link.Link.{Link}
+use Rattle.bf_links.specs.Links.{is_owner, link_to, links_of, IsLinkOf}
+use Rattle.bf_links.proofs.LinkLemmas.{links_exact}
+use Rattle.bf_ghost.specs.Strips.{StripValue}
+use Rattle.bf_ghost.specs.Telling.{strips_from, told_strips}
+use Rattle.bf_ghost.proofs.TellingLemmas.{flat_map_each, links_tell}
+use Rattle.bf_parts.specs.Leaves.{copy_at, part_of}
+use Rattle.bf_program.specs.declared.epoch.Epoch.{Epoch}
+use Rattle.bf_stages.specs.Plans.{span}
+use Rattle.bf_msg.specs.declared.linked_block.LinkedBlock.{LinkedBlock}
+use Rattle.bf_msg.specs.declared.message.Message.TheVariants.{Step as StepMessage}
+use Rattle.bf_forest.specs.declared.local.ForestLocal.{ForestLocal}
+use Rattle.bf_forest.specs.declared.setup.Setup.{Setup}
+use Rattle.bf_forest.specs.declared.stage.Stage.{Stage}
+use Rattle.bf_forest.specs.Setup.{case_of, every_setup_keeps_roots}
+use Rattle.bf_forest.specs.BlockLaws.{block_is, model_map, part_each}
+use Rattle.bf_forest.specs.Cases.{KeepsRoots}
+use Rattle.bf_forest.specs.Goods.{local_at, AreDealt, AreNeighbors, HasLinked, IsGood, IsLinkedBlock}
+use Rattle.bf_forest.specs.LeafLaws.{all_dealt}
+use Rattle.bf_forest.specs.Meanings.{forest}
+use Rattle.bf_forest.specs.ModelBlocks.{blocks_at, linked_at}
+use Rattle.bf_forest.specs.NeighborLaws.{linked_is}
+use Rattle.bf_forest.specs.Rounds.{is_linked, is_neighbor, play_of, strips_of, strips_to}
+use Rattle.bf_forest.specs.StageLaws.{stage_step}
+use Rattle.bf_forest.specs.Stages.{time_at}
+use Rattle.bf_forest.specs.StripLaws.{leaf_is}
+
+-- LINKS
+part_linked : (c : Case) (time : ℕ) (owner : BlockId → ℕ) (rank : ℕ) → KeepsRoots c → All (IsLinkedBlock c time owner rank) (part_of (blocks_at c time) owner rank)
+part_linked c time owner rank runs = part_each (IsLinkedBlock c time owner rank) c time owner rank (λ i has its. record {
+  is = block_is c time i runs has;
+  leaf = has;
+  owned = eqb-true (owner i) rank its;
+  links = links_exact c.roots (ids_of (model c time)) owner i;
+})
+
+copy_linked : (c : Case) (time : ℕ) (owner : BlockId → ℕ) (rank from : ℕ) → KeepsRoots c → All (IsLinkedBlock c time owner from) (copy_at (blocks_at c time) owner rank from)
+copy_linked c time owner rank from runs = by (from == rank)
+  where
+    by : (b : Bool) → All (IsLinkedBlock c time owner from) (cond b [] (part_of (blocks_at c time) owner from))
+    by true = All-nil (IsLinkedBlock c time owner from)
+    by false = part_linked c time owner from runs
+
+local_linked : (c : Case) (epoch : Epoch) (round : ℕ) (owner home : BlockId → ℕ) (rank : ℕ) → KeepsRoots c → HasLinked c epoch round owner home (local_at c epoch round owner home rank)
+local_linked c epoch round owner home rank runs = record {
+  blocks = part_linked c (time_at epoch round) owner rank runs;
+  own = part_linked c epoch.time home rank runs;
+  other = copy_linked c epoch.time home rank _ runs;
+}
+
+-- a member's local is that of its rank
+local_is : (c : Case) (epoch : Epoch) (round : ℕ) (owner home : BlockId → ℕ) (locals : List ForestLocal) (local : ForestLocal) → AreDealt c epoch round owner home locals → Contains locals local
+    → (rank : ℕ) × Contains epoch.members rank × (local ≡ local_at c epoch round owner home rank)
+local_is c epoch round owner home locals local dealt has = Contains-map_cases (local_at c epoch round owner home) epoch.members local (subst (λ (l : List ForestLocal). Contains l local) dealt.are has)
+
+pub all_linked : (setup : Setup) (epoch : Epoch) (round : ℕ) (locals : List ForestLocal) → IsGood setup epoch round locals
+    → (owner : BlockId → ℕ) × (home : BlockId → ℕ) × AreDealt (case_of setup) epoch round owner home locals × All (HasLinked (case_of setup) epoch round owner home) locals
+all_linked setup epoch round locals good =
+    let c : Case = case_of setup in
+    let has = all_dealt setup epoch round locals good in (
+      has.0,
+      has.1,
+      has.2,
+      All-from_Contains (HasLinked c epoch round has.0 has.1) locals (λ local there.
+          let is = local_is c epoch round has.0 has.1 locals local has.2 there in
+          subst (HasLinked c epoch round has.0 has.1) (sym is.2) (local_linked c epoch round has.0 has.1 is.0 (every_setup_keeps_roots setup))),
+    )
+
+-- NEIGHBOURS
+module _ (c : Case) (time : ℕ) (owner : BlockId → ℕ) where
+  abbrev ids : List BlockId
+  ids = ids_of (model c time)
+
+  abbrev part : ℕ → List LinkedBlock
+  part = part_of (blocks_at c time) owner
+
+  sees : (rank other : ℕ) → is_neighbor rank (part rank) other ≡ true → AreNeighbors c time owner rank other
+  unfolding is_neighbor part_of blocks_at
+  sees rank other test =
+      let both = and_parts (not (other == rank)) (list_any (is_linked other) (part rank)) test in
+      let one = passes_from_any (is_linked other) (part rank) both.1 in
+      let at = Contains-map_cases (linked_at c time owner) (filter (λ i. owner i == rank) ids) one.0 one.1 in
+      let its = Contains-filter_cases (λ i. owner i == rank) ids at.0 at.1 in
+      let linked : is_owner (links_of c.roots ids owner at.0) other ≡ true = ap (λ (b : LinkedBlock). is_owner b.links other) (sym at.2) ∙ one.2 in
+      let link = passes_from_any (λ (l : Link). l.owner == other) (links_of c.roots ids owner at.0) linked in
+      let near : IsLinkOf c.roots ids owner at.0 link.0 = (links_exact c.roots ids owner at.0 link.0).0 link.1 in
+      record {
+        apart = not_true (other == rank) both.0;
+        own = at.0;
+        theirs = link.0.id;
+        leaf = its.0;
+        other_leaf = near.leaf;
+        owned = eqb-true (owner at.0) rank its.1;
+        other_owned = sym near.owned ∙ eqb-true link.0.owner other link.2;
+        touch = near.touch;
+      }
+    where
+      not_true : (b : Bool) → not b ≡ true → b ≡ false
+      not_true true wrong = absurd (cc)
+      not_true false is = refl
+
+  seen : (rank other : ℕ) → AreNeighbors c time owner rank other → is_neighbor rank (part rank) other ≡ true
+  unfolding is_neighbor
+  seen rank other are =
+      let near : list_any (λ j. touches c.roots are.own j && owner j == other) ids ≡ true =
+      any_from_passes (λ j. touches c.roots are.own j && owner j == other) ids are.theirs are.other_leaf
+      (and_from (touches c.roots are.own are.theirs) (owner are.theirs == other) ((touches_decides c.roots are.own are.theirs).1 are.touch) (eq-eqb (owner are.theirs) other are.other_owned)) in
+      let some : list_any (λ i. owner i == rank && list_any (λ j. touches c.roots i j && owner j == other) ids) ids ≡ true =
+      any_from_passes (λ i. owner i == rank && list_any (λ j. touches c.roots i j && owner j == other) ids) ids are.own are.leaf
+      (and_from (owner are.own == rank) (list_any (λ j. touches c.roots are.own j && owner j == other) ids) (eq-eqb (owner are.own) rank are.owned) near) in
+      and_from (not (other == rank)) (list_any (is_linked other) (part rank)) (ap not are.apart) (linked_is c time owner rank other ∙ some)
+
+pub step_peers : (setup : Setup) (epoch : Epoch) (round : ℕ) (locals : List ForestLocal) → IsGood setup epoch round locals → round < span epoch
+    → (owner : BlockId → ℕ) × (home : BlockId → ℕ) × AreDealt (case_of setup) epoch round owner home locals
+    × ((local : ForestLocal) (other : ℕ) → Contains locals local
+    → (Contains (forest.peers setup local epoch round) other ↔ (Contains epoch.members other × AreNeighbors (case_of setup) (time_at epoch round) owner local.rank other)))
+step_peers setup epoch round locals good before =
+    let c : Case = case_of setup in
+    let has = all_dealt setup epoch round locals good in
+    let owner = has.0 in (
+      owner,
+      has.1,
+      has.2,
+      λ local other there.
+          let is = local_is c epoch round owner has.1 locals local has.2 there in
+          let rank = is.0 in
+          let peers : forest.peers setup local epoch round ≡ filter (is_neighbor rank (part_of (blocks_at c (time_at epoch round)) owner rank)) epoch.members =
+          ap (λ (stage : Stage). (play_of c epoch stage).peers epoch.members local) (stage_step epoch round before)
+          ∙ ap (λ (l : ForestLocal). filter (is_neighbor l.rank l.blocks) epoch.members) is.2 in
+          let same : local.rank ≡ rank = ap (λ (l : ForestLocal). l.rank) is.2 in (
+            λ in_peers.
+                let one = Contains-filter_cases (is_neighbor rank (part_of (blocks_at c (time_at epoch round)) owner rank)) epoch.members other (subst (λ (l : List ℕ). Contains l other) peers in_peers) in
+                (one.0, subst (λ r. AreNeighbors c (time_at epoch round) owner r other) (sym same) (sees c (time_at epoch round) owner rank other one.1)),
+            λ near.
+                subst (λ (l : List ℕ). Contains l other) (sym peers)
+                (Contains-filter (is_neighbor rank (part_of (blocks_at c (time_at epoch round)) owner rank)) epoch.members other near.0
+                (seen c (time_at epoch round) owner rank other (subst (λ r. AreNeighbors c (time_at epoch round) owner r other) same near.1))),
+          ),
+    )
+
+-- STRIPS
+module _ (c : Case) (time : ℕ) (owner : BlockId → ℕ) (runs : KeepsRoots c) where
+  one_told : (to : ℕ) (leaf : Leaf) → Contains (model c time) leaf
+      → strips_of c.roots to (linked_at c time owner leaf.0) ≡ strips_from c.roots leaf (filter (λ i. owner i == to) (filter (touches c.roots leaf.0) (ids_of (model c time))))
+  one_told to leaf has =
+      let near : List BlockId = filter (touches c.roots leaf.0) (ids_of (model c time)) in
+      ap (λ (l : Leaf). strips_from c.roots l (map (λ (link : Link). link.id) (filter (λ (link : Link). link.owner == to) (map (link_to owner) near)))) (leaf_is c time runs owner leaf has)
+      ∙ ap (λ (ls : List Link). strips_from c.roots leaf (map (λ (link : Link). link.id) ls)) (filter_mapped (λ (link : Link). link.owner == to) (link_to owner) near)
+      ∙ ap (strips_from c.roots leaf) (map_twice (λ (link : Link). link.id) (link_to owner) (λ i. i) (λ i. refl) (filter (λ i. owner i == to) near) ∙ map-id (filter (λ i. owner i == to) near))
+
+  pub part_tells : (from to : ℕ) → strips_to c.roots to (part_of (blocks_at c time) owner from) ≡ told_strips c.roots (model c time) owner from to
+  unfolding strips_to part_of blocks_at
+  part_tells from to =
+      let mine : List Leaf = filter (λ (l : Leaf). owner l.0 == from) (model c time) in
+      let near : BlockId → List BlockId = λ i. filter (touches c.roots i) (ids_of (model c time)) in
+      ap (λ (is : List BlockId). flat_map (strips_of c.roots to) (map (linked_at c time owner) is)) (filter_mapped (λ i. owner i == from) (λ (l : Leaf). l.0) (model c time))
+      ∙ flat_map-map (strips_of c.roots to) (linked_at c time owner) (map (λ (l : Leaf). l.0) mine)
+      ∙ flat_map-map (λ i. strips_of c.roots to (linked_at c time owner i)) (λ (l : Leaf). l.0) mine
+      ∙ flat_map_each (λ (l : Leaf). strips_of c.roots to (linked_at c time owner l.0)) (λ (l : Leaf). strips_from c.roots l (filter (λ i. owner i == to) (near l.0))) mine
+      (All-from_Contains (λ (l : Leaf). strips_of c.roots to (linked_at c time owner l.0) ≡ strips_from c.roots l (filter (λ i. owner i == to) (near l.0))) mine
+      (λ l among. one_told to l (Contains-filter_cases (λ (l : Leaf). owner l.0 == from) (model c time) l among).0))
+      ∙ links_tell c.roots c.side (model c time) near owner from to runs.valid.sized.shape (model_map c time runs) (λ leaf has. refl)
+
+pub step_tells : (setup : Setup) (epoch : Epoch) (round : ℕ) (locals : List ForestLocal) → IsGood setup epoch round locals → round < span epoch
+    → (owner : BlockId → ℕ) × (home : BlockId → ℕ) × AreDealt (case_of setup) epoch round owner home locals
+    × ((local : ForestLocal) (to : ℕ) → Contains locals local
+    → (forest.out setup local epoch round to).1 ≡ StepMessage (told_strips (case_of setup).roots (model (case_of setup) (time_at epoch round)) owner local.rank to))
+step_tells setup epoch round locals good before =
+    let c : Case = case_of setup in
+    let has = all_dealt setup epoch round locals good in
+    let owner = has.0 in (
+      owner,
+      has.1,
+      has.2,
+      λ local to there.
+          let is = local_is c epoch round owner has.1 locals local has.2 there in
+          ap (λ (stage : Stage). ((play_of c epoch stage).out local to).1) (stage_step epoch round before)
+          ∙ ap (λ (l : ForestLocal). StepMessage (strips_to c.roots to l.blocks)) is.2
+          ∙ ap (λ (strips : List StripValue). StepMessage strips) (part_tells c (time_at epoch round) owner (every_setup_keeps_roots setup) is.0 to)
+          ∙ ap (λ (rank : ℕ). StepMessage (told_strips c.roots (model c (time_at epoch round)) owner rank to)) (sym (ap (λ (l : ForestLocal). l.rank) is.2)),
+    )

@@ -1,0 +1,3 @@
+-- Blocks with their links, and what a message has.
+pub mod LinkedBlocks
+pub mod Messages

@@ -1,0 +1,72 @@
+//! One message a round.
+ghost use Rattle.std.specs.Prelude.{◌≡◌, ◌%◌, ◌^◌, sum};
+ghost use Rattle.bf_msg.specs.Messages.{measured, sum_of_blocks, sum_of_strips};
+
+use crate::LinkedBlock;
+use bf_ghost::Strip;
+use bf_items::Items;
+use bf_program::Measure;
+
+/// What one rank sends another in a round.
+#[derive(Drop)]
+pub enum Message {
+    /// What the sender's blocks tell those of the receiver that share a face with them, by the ids of the sender's blocks and
+    /// then of the receiver's.
+    Step(Items<Strip>),
+    /// The sender's part of the new snapshot, for its buddy alone.
+    Snapshot(Option<Items<LinkedBlock>>),
+}
+
+// The sum of values, modulo 2^64.
+fn sum_of(values: &[u32]) -> u64
+    ensures { result ≡ sum values.now % 2 ^ 64 }
+{
+    let mut sum = 0u64;
+    for value in values {
+        sum = sum.wrapping_add(u64::from(*value));
+    }
+    sum
+}
+
+// The sum of the cells of blocks.
+fn sum_of_blocks(blocks: &[LinkedBlock]) -> u64
+    ensures { result ≡ sum_of_blocks blocks.now % 2 ^ 64 }
+{
+    let mut sum = 0u64;
+    for linked in blocks {
+        sum = sum.wrapping_add(sum_of(linked.block.cells().values()));
+    }
+    sum
+}
+
+// The sum of what strips tell.
+fn sum_of_strips(strips: &[Strip]) -> u64
+    ensures { result ≡ sum_of_strips strips.now % 2 ^ 64 }
+{
+    let mut sum = 0u64;
+    for strip in strips {
+        sum = sum.wrapping_add(strip.sum());
+    }
+    sum
+}
+
+impl Message {
+    /// How many whole blocks the message has, modulo 2^32, and the sum of all cells and values in it, modulo 2^64. What is
+    /// empty has 0 of both.
+    #[tactic(auto, unfolding(crate::specs::Messages::measured))]
+    pub fn measure(&self) -> Measure
+        ensures { result ≡ measured self.now }
+    {
+        match self {
+            Message::Step(strips) => Measure {
+                blocks: 0,
+                sum: sum_of_strips(strips.as_slice()),
+            },
+            Message::Snapshot(Some(part)) => Measure {
+                blocks: (part.len() % 4294967296) as u32,
+                sum: sum_of_blocks(part.as_slice()),
+            },
+            Message::Snapshot(None) => Measure { blocks: 0, sum: 0 },
+        }
+    }
+}
