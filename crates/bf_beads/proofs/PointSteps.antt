@@ -1,20 +1,16 @@
 -- What a local is at the points of the lockstep.
-use Rattle.std.proofs.Common.{◌≡◌, ℕ, Bool, true, false, cond, List, [], ◌∷◌, refl, ap, sym, ◌∙◌, subst}
-use Rattle.std.specs.Prelude.{◌==◌, ◌&&◌, ◌||◌, not, filter, All}
+use Rattle.std.proofs.Common.{◌≡◌, ℕ, Bool, true, false, cond, List, [], refl, ap, sym, ◌∙◌, subst}
+use Rattle.std.specs.Prelude.{◌==◌, filter, All}
 use Rattle.std.proofs.lemmas.List.Elements.{All-nil}
 use Rattle.bf_buddy.specs.Members.{is_member}
 use Rattle.bf_buddy.specs.Buddy.{predecessor_of}
 use Rattle.bf_program.specs.declared.epoch.Epoch.{Epoch}
 use Rattle.bf_program.specs.Points.{IsFirst, IsRestoring}
 use Rattle.bf_parts.specs.declared.side.Side.{Side}
-use Rattle.bf_lemmas.proofs.Tests.{eqb_swap}
 use Rattle.bf_parts.specs.Leaves.{AreAmong, part_of, side_at}
-use Rattle.bf_lemmas.proofs.Lists.{filter_alike}
-use Rattle.bf_buddy.proofs.MemberLemmas.{all_members}
-use Rattle.bf_parts.specs.Sides.{gives}
-use Rattle.bf_parts.specs.SnapshotRounds.{are_paired}
 use Rattle.bf_rounds.specs.Canonical.{KeepsTelling}
 use Rattle.bf_rounds.proofs.PointLemmas.{first_told, told_its}
+use Rattle.bf_stages.proofs.SnapshotLemmas.{none_passes, paired_asked}
 use Rattle.bf_stages.specs.Stages.{telling_of}
 use Rattle.bf_stages.proofs.StartLemmas.{keeps_telling}
 use Rattle.bf_beads.specs.declared.bead.Bead.{Bead}
@@ -38,25 +34,13 @@ pub keeps : (setup : BeadSetup) → KeepsTelling beads (telling_of beads staging
 keeps setup = keeps_telling beads staging setup (staged setup) pieces (has_stages setup)
 
 -- who is asked for is who is a peer
-none_passes : (members : List ℕ) → filter (λ other. false) members ≡ []
-none_passes [] = refl
-none_passes (member ∷ members) = none_passes members
-
-paired_is : (members : List ℕ) (shift rank other : ℕ) → is_member members rank ≡ true → is_member members other ≡ true
-    → (not (other == rank) && (gives members shift rank other || gives members shift other rank)) ≡ are_paired members shift rank other
-unfolding gives are_paired
-paired_is members shift rank other is_in other_in = rw (is_in, other_in, eqb_swap other rank) refl
-
 peers_at : (shift : ℕ) (epoch : Epoch) (local : BeadLocal) (stage : Stage) → is_member epoch.members local.rank ≡ true
     → filter (is_peer stage epoch.members shift local) epoch.members ≡ (play_of shift epoch stage).peers epoch.members local
 unfolding is_peer
 peers_at shift epoch local (Tell time) is_in = refl
 peers_at shift epoch local (Grow time) is_in = none_passes epoch.members
 peers_at shift epoch local (Move time) is_in = refl
-peers_at shift epoch local Snapshot is_in =
-    filter_alike (λ other. is_member epoch.members other ≡ true) (λ other. not (other == local.rank) && (gives epoch.members shift local.rank other || gives epoch.members shift other local.rank))
-    (are_paired epoch.members shift local.rank) (λ other other_in. paired_is epoch.members shift local.rank other is_in other_in) epoch.members
-    (all_members (λ other. is_member epoch.members other ≡ true) epoch.members (λ other other_in. other_in))
+peers_at shift epoch local Snapshot is_in = paired_asked epoch.members shift local.rank is_in
 peers_at shift epoch local Over is_in = none_passes epoch.members
 
 pub peers_are : (setup : BeadSetup) (epoch : Epoch) (round : ℕ) (local : BeadLocal) → IsFirst beads IsGood setup epoch round local

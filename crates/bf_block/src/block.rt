@@ -192,8 +192,8 @@ impl Block {
         }
     }
 
-    /// The same leaf one step later, where the shell holds the samples around it. Blocks beside it may still need this one.
-    pub fn advanced(&self, alloc: Global, shell: &Shell) -> Result<Block, Memory>
+    // The same leaf one step later, where the shell holds the samples around it.
+    fn advanced(&self, alloc: Global, shell: &Shell) -> Result<Block, Memory>
         requires regridded { IsTrue self.now.point.regridded }
         requires time { self.now.point.time < self.now.case.steps }
         requires side { shell.now.side ≡ self.now.cells.side }

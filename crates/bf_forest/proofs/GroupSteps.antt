@@ -1,5 +1,5 @@
 -- Strips as they are put to the blocks that they are for.
-use Rattle.std.proofs.Common.{◌≡◌, ◌≢◌, ℕ, zero, suc, replicate, ◌+◌, ◌<◌, ◌≤◌, Bool, cond, List, [], ◌∷◌, ◌++◌, length, map, get_or, refl, sym, ap, subst, ◌∙◌, arith, ◌⊎◌, inl, inr}
+use Rattle.std.proofs.Common.{◌≡◌, ◌≢◌, ℕ, replicate, ◌<◌, ◌≤◌, Bool, cond, List, [], ◌∷◌, ◌++◌, length, map, get_or, refl, sym, ap, subst, ◌∙◌, arith, ◌⊎◌, inl, inr}
 use Rattle.std.proofs.Math.ListN.{set}
 use Rattle.std.proofs.lemmas.Bool.{cases_eq, cases_lt, false_from_ne_true}
 use Rattle.std.proofs.lemmas.List.{append-nil, ext_get_or, get_or-map, get_or-set_other, get_or-set_same, length-map, length-set, map-set}
@@ -18,14 +18,6 @@ use Rattle.bf_forest.specs.Ready.{AreOrdered, groups_of}
 pub none_told : (blocks : List LinkedBlock) → replicate (length blocks) [] ≡ groups_of [] blocks
 none_told [] = refl
 none_told (b ∷ blocks) = ap (λ (rest : List (List StripValue)). [] ∷ rest) (none_told blocks)
-
-pub one_empty : (n : ℕ) (groups next : List (List StripValue)) → groups ≡ replicate n [] → next ≡ groups ++ [] ∷ [] → next ≡ replicate (n + 1) []
-one_empty n groups next are pushed =
-    pushed ∙ ap (λ (l : List (List StripValue)). l ++ [] ∷ []) are ∙ last n ∙ ap (λ (k : ℕ). replicate k []) (let e : suc n ≡ n + 1 = omega arith in e)
-  where
-    last : (k : ℕ) → ◌≡◌ {A = List (List StripValue)} (replicate k [] ++ [] ∷ []) (replicate (suc k) [])
-    last zero = refl
-    last (suc k) = ap (λ (rest : List (List StripValue)). [] ∷ rest) (last k)
 
 module _ (blocks : List LinkedBlock) (strips : List StripValue) (strip : StripValue) where
   more : (i : BlockId) → strips_for i (strips ++ strip ∷ []) ≡ strips_for i strips ++ cond (id_eq strip.target i) (strip ∷ []) []
@@ -92,21 +84,16 @@ some_block : (blocks : List LinkedBlock) (p : ℕ) → p < length blocks → Lin
 some_block [] p within = absurd (omega arith)
 some_block (b ∷ blocks) p within = b
 
-module _ {V : Type 0} (items : V → List StripValue) (blocks : List LinkedBlock) (strips : List StripValue) (vecs : List V) where
-  -- at the beginning all are empty
-  pub all_empty : (n : ℕ) → map items vecs ≡ replicate n [] → n ≡ length blocks → map items vecs ≡ groups_of [] blocks
-  all_empty n are many = are ∙ ap (λ (k : ℕ). replicate k []) many ∙ none_told blocks
+module _ {V : Type 0} (items : V → List StripValue) (blocks : List LinkedBlock) (strips : List StripValue) (vecs : List V) (are : map items vecs ≡ groups_of strips blocks) where
+  pub as_many : length vecs ≡ length blocks
+  as_many = sym (length-map vecs items) ∙ ap length are ∙ length-map blocks (λ (b : LinkedBlock). strips_for b.block.id strips)
 
-  module _ (are : map items vecs ≡ groups_of strips blocks) where
-    pub as_many : length vecs ≡ length blocks
-    as_many = sym (length-map vecs items) ∙ ap length are ∙ length-map blocks (λ (b : LinkedBlock). strips_for b.block.id strips)
-
-    -- and one strip is put behind those of its block
-    pub pushed_one : (strip : StripValue) (p : ℕ) (old new : V) → AreOrdered blocks → p < length blocks → ((d : LinkedBlock) → (get_or blocks p d).block.id ≡ strip.target) → old ≡ get_or vecs p old
-        → items new ≡ items old ++ strip ∷ [] → map items (set vecs p new) ≡ groups_of (strips ++ strip ∷ []) blocks
-    pushed_one strip p old new ordered within its at pushed =
-        let e = some_block blocks p within in
-        let here : items old ≡ get_or (map items vecs) p [] = ap items at ∙ sym (get_or-map items vecs p old [] (omega (arith, within, as_many))) in
-        map-set items vecs p new
-        ∙ put_one blocks strips strip (map items vecs) (set (map items vecs) p (items new)) p e ordered within (its e) are
-        (ap (set (map items vecs) p) (pushed ∙ ap (λ (l : List StripValue). l ++ strip ∷ []) here))
+  -- and one strip is put behind those of its block
+  pub pushed_one : (strip : StripValue) (p : ℕ) (old new : V) → AreOrdered blocks → p < length blocks → ((d : LinkedBlock) → (get_or blocks p d).block.id ≡ strip.target) → old ≡ get_or vecs p old
+      → items new ≡ items old ++ strip ∷ [] → map items (set vecs p new) ≡ groups_of (strips ++ strip ∷ []) blocks
+  pushed_one strip p old new ordered within its at pushed =
+      let e = some_block blocks p within in
+      let here : items old ≡ get_or (map items vecs) p [] = ap items at ∙ sym (get_or-map items vecs p old [] (omega (arith, within, as_many))) in
+      map-set items vecs p new
+      ∙ put_one blocks strips strip (map items vecs) (set (map items vecs) p (items new)) p e ordered within (its e) are
+      (ap (set (map items vecs) p) (pushed ∙ ap (λ (l : List StripValue). l ++ strip ∷ []) here))

@@ -1,13 +1,10 @@
 -- What a rank knows of its local at each call.
-use Rattle.std.proofs.Common.{◌≡◌, ℕ, ◌+◌, ◌<◌, ◌≤◌, Bool, true, false, cond, List, [], ◌∷◌, ◌++◌, ◌⊎◌, inl, inr, All, arith, refl, ap, sym, ◌∙◌, subst}
-use Rattle.std.specs.Prelude.{◌==◌, ◌&&◌, ◌||◌, not, filter}
+use Rattle.std.proofs.Common.{◌≡◌, ℕ, ◌+◌, ◌<◌, ◌≤◌, Bool, true, false, cond, List, [], ◌++◌, ◌⊎◌, inl, inr, All, arith, refl, ap, sym, ◌∙◌, subst}
+use Rattle.std.specs.Prelude.{◌==◌, filter}
 use Rattle.std.proofs.lemmas.Bool.{cases_lt, cases_order}
 use Rattle.std.proofs.lemmas.List.Elements.{All-nil}
-use Rattle.bf_lemmas.proofs.Tests.{eqb_swap}
-use Rattle.bf_lemmas.proofs.Lists.{filter_alike}
 use Rattle.bf_buddy.specs.Members.{is_member}
 use Rattle.bf_buddy.specs.Buddy.{predecessor_of}
-use Rattle.bf_buddy.proofs.MemberLemmas.{all_members}
 use Rattle.bf_program.specs.declared.epoch.Epoch.{Epoch}
 use Rattle.bf_program.specs.Points.{IsFirst, IsSending, IsReceiving, IsFinishing, IsRestoring}
 use Rattle.bf_id.specs.Id.{BlockId}
@@ -17,10 +14,9 @@ use Rattle.bf_forest.specs.Setup.{case_of, every_setup_keeps_roots}
 use Rattle.bf_ghost.specs.Strips.{StripValue}
 use Rattle.bf_parts.specs.declared.side.Side.{Side}
 use Rattle.bf_parts.specs.Leaves.{AreAmong, part_of, side_at}
-use Rattle.bf_parts.specs.Sides.{gives}
-use Rattle.bf_parts.specs.SnapshotRounds.{are_paired}
 use Rattle.bf_rounds.proofs.PointLemmas.{first_told, sending_told, receiving_told, finishing_told, told_its}
 use Rattle.bf_rounds.specs.Canonical.{KeepsTelling, IsSendingTold, IsHearingTold, IsFinishingTold}
+use Rattle.bf_stages.proofs.SnapshotLemmas.{none_passes, paired_asked}
 use Rattle.bf_stages.specs.Stages.{telling_of}
 use Rattle.bf_stages.proofs.StartLemmas.{keeps_telling}
 use Rattle.bf_forest.specs.declared.local.ForestLocal.{ForestLocal}
@@ -35,7 +31,7 @@ use Rattle.bf_forest.specs.ForestLaws.{lawful_forest, staged, whole_span, ends_w
 use Rattle.bf_forest.specs.Goods.{IsGood}
 use Rattle.bf_forest.specs.Meanings.{forest, pieces}
 use Rattle.bf_forest.specs.ModelBlocks.{blocks_at}
-use Rattle.bf_forest.specs.Ready.{AreOrdered, CanFinish, CanSend, CanStep, IsLinkedIn, IsReady}
+use Rattle.bf_forest.specs.Ready.{AreOrdered, CanFinish, CanSend, CanStep, AreLinkedInside, IsReady}
 use Rattle.bf_forest.specs.Rounds.{play_of, strips_to}
 use Rattle.bf_forest.specs.RoundLaws.{has_stages}
 use Rattle.bf_forest.specs.StageLaws.{stage_step, stage_snapshot, stage_over}
@@ -72,13 +68,13 @@ sending_is setup epoch round to time local at stage =
     ap (λ (l : ForestLocal). l.blocks) told.is ∙ ap (λ (s : Stage). ((course_in (case_of setup) epoch s told.world).sent told.rank told.done).blocks) stage
 
 pub sending_ready : (setup : Setup) (epoch : Epoch) (round to : ℕ) (local : ForestLocal) → IsSending forest IsGood setup epoch round to local
-    → CanSend (case_of setup) (stage_of forest_plan epoch round) local
+    → CanSend (stage_of forest_plan epoch round) local
 sending_ready setup epoch round to local at = by (stage_of forest_plan epoch round) refl
   where
-    by : (stage : Stage) → stage_of forest_plan epoch round ≡ stage → CanSend (case_of setup) stage local
+    by : (stage : Stage) → stage_of forest_plan epoch round ≡ stage → CanSend stage local
     by (Step time) stage =
         let told = knows_sending setup epoch round to local at in
-        subst (All (IsLinkedIn (case_of setup).roots)) (sym (sending_is setup epoch round to time local at stage)) (part_inside (case_of setup) time told.world.owner told.rank (every_setup_keeps_roots setup))
+        subst (All AreLinkedInside) (sym (sending_is setup epoch round to time local at stage)) (part_inside (case_of setup) time told.world.owner told.rank (every_setup_keeps_roots setup))
     by Snapshot stage = tt
     by Over stage = tt
 
@@ -95,23 +91,11 @@ first_owned_by setup epoch round local first =
     let told = first_told forest (telling_of forest forest_staging) setup (keeps setup) (lawful_forest setup).goods epoch round local first in
     subst (All (IsOwnedAmong epoch.members)) (sym (ap (λ (l : ForestLocal). l.blocks) told.is)) (leaves_owned (case_of setup) epoch (stage_of forest_plan epoch round) told.world.owner told.rank told.fits.owned)
 
-none_passes : (members : List ℕ) → filter (λ other. false) members ≡ []
-none_passes [] = refl
-none_passes (member ∷ members) = none_passes members
-
-paired_is : (members : List ℕ) (shift rank other : ℕ) → is_member members rank ≡ true → is_member members other ≡ true
-    → (not (other == rank) && (gives members shift rank other || gives members shift other rank)) ≡ are_paired members shift rank other
-unfolding gives are_paired
-paired_is members shift rank other is_in other_in = rw (is_in, other_in, eqb_swap other rank) refl
-
 peers_at : (c : Case) (epoch : Epoch) (local : ForestLocal) (stage : Stage) → is_member epoch.members local.rank ≡ true
     → filter (is_peer stage epoch.members c.shift local) epoch.members ≡ (play_of c epoch stage).peers epoch.members local
 unfolding is_peer
 peers_at c epoch local (Step time) is_in = refl
-peers_at c epoch local Snapshot is_in =
-    filter_alike (λ other. is_member epoch.members other ≡ true) (λ other. not (other == local.rank) && (gives epoch.members c.shift local.rank other || gives epoch.members c.shift other local.rank))
-    (are_paired epoch.members c.shift local.rank) (λ other other_in. paired_is epoch.members c.shift local.rank other is_in other_in) epoch.members
-    (all_members (λ other. is_member epoch.members other ≡ true) epoch.members (λ other other_in. other_in))
+peers_at c epoch local Snapshot is_in = paired_asked epoch.members c.shift local.rank is_in
 peers_at c epoch local Over is_in = none_passes epoch.members
 
 pub peers_are : (setup : Setup) (epoch : Epoch) (round : ℕ) (local : ForestLocal) → IsFirst forest IsGood setup epoch round local
@@ -153,11 +137,11 @@ part_ready setup time owner members rank local owned more here own told =
     let c : Case = case_of setup in
     let runs = every_setup_keeps_roots setup in
     let part : List LinkedBlock = part_of (blocks_at c time) owner rank in
-    let known : all_told c time owner members rank ≡ local.heard ++ strips_to c.roots local.rank local.blocks = rw (here, own, told) refl in
+    let known : all_told c time owner members rank ≡ local.heard ++ strips_to local.rank local.blocks = rw (here, own, told) refl in
     record {
-      tells = subst (All (IsLinkedIn c.roots)) (sym own) (part_inside c time owner rank runs);
+      tells = subst (All AreLinkedInside) (sym own) (part_inside c time owner rank runs);
       ordered = subst AreOrdered (sym own) (part_ordered c time owner rank runs);
-      told = subst (All (CanStep c time (local.heard ++ strips_to c.roots local.rank local.blocks))) (sym own)
+      told = subst (All (CanStep c time (local.heard ++ strips_to local.rank local.blocks))) (sym own)
           (subst (λ (strips : List StripValue). All (CanStep c time strips) part) known
           (part_each (CanStep c time (all_told c time owner members rank)) c time owner rank
           (λ i has its. record { is = block_is c time i runs has; told = strips_are_all c time runs owner members rank owned i has its })));

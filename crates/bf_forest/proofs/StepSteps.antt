@@ -2,7 +2,6 @@
 use Rattle.std.proofs.Common.{◌≡◌, ℕ, zero, suc, ◌<◌, List, [], ◌∷◌, ◌++◌, length, map, get_or, All, refl, sym, ap, subst, ◌∙◌, arith}
 use Rattle.std.specs.List.{zip}
 use Rattle.std.proofs.lemmas.List.{get_or-map, length-map}
-use Rattle.bf_id.specs.declared.shape.Shape.{Shape}
 use Rattle.bf_case.specs.declared.case.Case.{Case}
 use Rattle.bf_ghost.specs.Strips.{StripValue}
 use Rattle.bf_msg.specs.declared.linked_block.LinkedBlock.{LinkedBlock}
@@ -59,22 +58,21 @@ pub all_between : (c : Case) (time : ℕ) (strips : List StripValue) (blocks : L
 all_between c time strips blocks groups are can more = subst (λ l. All (IsPairBetween c time) (zip blocks l)) (sym are) (each_between c time strips blocks can more)
 
 -- so a rank's blocks are stepped between what it heard and what they tell each other
-pub all_stepped_by : (shape : Shape) (rank : ℕ) (heard : List StripValue) (blocks : List LinkedBlock) (groups : List (List StripValue)) → groups ≡ groups_of (heard ++ strips_to shape rank blocks) blocks
-    → map stepped_pair (zip blocks groups) ≡ stepped_all shape rank heard blocks
+pub all_stepped_by : (rank : ℕ) (heard : List StripValue) (blocks : List LinkedBlock) (groups : List (List StripValue)) → groups ≡ groups_of (heard ++ strips_to rank blocks) blocks
+    → map stepped_pair (zip blocks groups) ≡ stepped_all rank heard blocks
 unfolding stepped_all
-all_stepped_by shape rank heard blocks groups are = ap (λ l. map stepped_pair (zip blocks l)) are ∙ each (heard ++ strips_to shape rank blocks) blocks
+all_stepped_by rank heard blocks groups are = ap (λ l. map stepped_pair (zip blocks l)) are ∙ each (heard ++ strips_to rank blocks) blocks
   where
     each : (strips : List StripValue) (bs : List LinkedBlock) → map stepped_pair (zip bs (groups_of strips bs)) ≡ map (stepped_by strips) bs
     each strips [] = refl
     each strips (b ∷ bs) = ap (λ rest. stepped_by strips b ∷ rest) (each strips bs)
 
 -- the groups of all that was told
-pub groups_by : (shape : Shape) (rank : ℕ) (heard : List StripValue) (blocks : List LinkedBlock) (given_shape : Shape) (strips before : List StripValue) (first second : List LinkedBlock) (groups : List (List StripValue))
-    → given_shape ≡ shape → before ≡ heard → first ≡ blocks → second ≡ blocks → strips ≡ before ++ strips_to given_shape rank first → groups ≡ groups_of strips second
-    → groups ≡ groups_of (heard ++ strips_to shape rank blocks) blocks
-groups_by shape rank heard blocks given_shape strips before first second groups shapes begin one two told are =
+pub groups_by : (rank : ℕ) (heard : List StripValue) (blocks : List LinkedBlock) (strips before : List StripValue) (first second : List LinkedBlock) (groups : List (List StripValue))
+    → before ≡ heard → first ≡ blocks → second ≡ blocks → strips ≡ before ++ strips_to rank first → groups ≡ groups_of strips second
+    → groups ≡ groups_of (heard ++ strips_to rank blocks) blocks
+groups_by rank heard blocks strips before first second groups begin one two told are =
     are
     ∙ ap (groups_of strips) two
     ∙ ap (λ (l : List StripValue). groups_of l blocks)
-    (told ∙ ap (λ (l : List StripValue). l ++ strips_to given_shape rank first) begin ∙ ap (λ (bs : List LinkedBlock). heard ++ strips_to given_shape rank bs) one
-    ∙ ap (λ (s : Shape). heard ++ strips_to s rank blocks) shapes)
+    (told ∙ ap (λ (l : List StripValue). l ++ strips_to rank first) begin ∙ ap (λ (bs : List LinkedBlock). heard ++ strips_to rank bs) one)

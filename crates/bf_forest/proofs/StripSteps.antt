@@ -55,13 +55,13 @@ module _ (shape : Shape) (to : ℕ) (leaf : Leaf) (links : List Link) (k : ℕ) 
       ∙ ap (λ (o : Option StripValue). told_by shape to leaf (take k links) ++ filter_map (λ (p : Option StripValue). p) (o ∷ [])) some))
 
 -- one block more that tells the blocks of a rank
-pub block_told : (shape : Shape) (to : ℕ) (blocks : List LinkedBlock) (k : ℕ) (linked : LinkedBlock) (before strips next : List StripValue) → k < length blocks → linked ≡ get_or blocks k linked
-    → next ≡ strips ++ strips_of shape to linked → strips ≡ before ++ strips_to shape to (take k blocks) → next ≡ before ++ strips_to shape to (take (k + 1) blocks)
+pub block_told : (to : ℕ) (blocks : List LinkedBlock) (k : ℕ) (linked : LinkedBlock) (before strips next : List StripValue) → k < length blocks → linked ≡ get_or blocks k linked
+    → next ≡ strips ++ strips_of to linked → strips ≡ before ++ strips_to to (take k blocks) → next ≡ before ++ strips_to to (take (k + 1) blocks)
 unfolding strips_to
-block_told shape to blocks k linked before strips next within is told so_far =
+block_told to blocks k linked before strips next within is told so_far =
     told
-    ∙ ap (λ (l : List StripValue). l ++ strips_of shape to linked) so_far
-    ∙ append_assoc before (flat_map (strips_of shape to) (take k blocks)) (strips_of shape to linked)
-    ∙ ap (λ (l : List StripValue). before ++ (flat_map (strips_of shape to) (take k blocks) ++ l)) (sym (append-nil (strips_of shape to linked)))
-    ∙ ap (λ (l : List StripValue). before ++ l) (sym (flat_map-append (strips_of shape to) (take k blocks) (linked ∷ [])))
-    ∙ ap (λ (l : List LinkedBlock). before ++ flat_map (strips_of shape to) l) (ap (λ (b : LinkedBlock). take k blocks ++ b ∷ []) is ∙ sym (take_more blocks k linked within))
+    ∙ ap (λ (l : List StripValue). l ++ strips_of to linked) so_far
+    ∙ append_assoc before (flat_map (strips_of to) (take k blocks)) (strips_of to linked)
+    ∙ ap (λ (l : List StripValue). before ++ (flat_map (strips_of to) (take k blocks) ++ l)) (sym (append-nil (strips_of to linked)))
+    ∙ ap (λ (l : List StripValue). before ++ l) (sym (flat_map-append (strips_of to) (take k blocks) (linked ∷ [])))
+    ∙ ap (λ (l : List LinkedBlock). before ++ flat_map (strips_of to) l) (ap (λ (b : LinkedBlock). take k blocks ++ b ∷ []) is ∙ sym (take_more blocks k linked within))

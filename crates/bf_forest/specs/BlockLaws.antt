@@ -7,7 +7,7 @@ use Rattle.std.proofs.Math.Nat.{div-lt_iff_lt-mul, mul-lt-mul_of_pos_left, mul-l
 use Rattle.std.proofs.lemmas.Bool.{false_from_ne_true}
 use Rattle.std.proofs.lemmas.List.FromFn.{length-map-range_with_len, get_or-map-range_with_len}
 use Rattle.std.proofs.lemmas.List.Kept.{AllPairs-filter}
-use Rattle.std.proofs.lemmas.List.Elements.{All-map, All-filter, All-contains}
+use Rattle.std.proofs.lemmas.List.Elements.{All-map, All-filter}
 use Rattle.bf_buddy.specs.Members.{is_member}
 use Rattle.bf_id.specs.declared.shape.Shape.{Shape}
 use Rattle.bf_id.specs.Cube.{Voxel, Holds, holds}
@@ -45,7 +45,7 @@ use Rattle.std.proofs.lemmas.List.{get_or_default, get_or-map, length-map}
 use Rattle.bf_buddy.proofs.MemberLemmas.{all_members, range_within, range_has}
 use Rattle.bf_forest.specs.ModelBlocks.{cells_or, block_at, linked_at, blocks_at, first_home, IsBlockAt}
 use Rattle.bf_forest.specs.Opening.{first_owners}
-use Rattle.bf_forest.specs.Ready.{IsLinkedIn, AreOrdered}
+use Rattle.bf_forest.specs.Ready.{AreLinkedInside, AreOrdered}
 use Rattle.bf_forest.specs.Starts.{starts}
 
 -- every map of the model is one
@@ -116,13 +116,11 @@ part_each P c time owner rank each =
 pub part_are : (c : Case) (time : ℕ) (owner : BlockId → ℕ) (rank : ℕ) → KeepsRoots c → All (λ b. IsBlockAt c time b.block) (part_of (blocks_at c time) owner rank)
 part_are c time owner rank runs = part_each (λ b. IsBlockAt c time b.block) c time owner rank (λ i has its. block_is c time i runs has)
 
--- they lie in the domain, and so do all leaves that they are linked with
-pub part_inside : (c : Case) (time : ℕ) (owner : BlockId → ℕ) (rank : ℕ) → KeepsRoots c → All (IsLinkedIn c.roots) (part_of (blocks_at c time) owner rank)
-part_inside c time owner rank runs = part_each (IsLinkedIn c.roots) c time owner rank (λ i has its. record {
-  own = All-contains (InShape c.roots) (ids_of (model c time)) i (model_map c time runs).in_shape has;
-  links = All-map (λ (link : Link). InShape c.roots link.id) (link_to owner) (filter (touches c.roots i) (ids_of (model c time)))
-      (All-filter (touches c.roots i) (InShape c.roots) (ids_of (model c time)) (model_map c time runs).in_shape);
-})
+-- all leaves that they are linked with lie in the domain
+pub part_inside : (c : Case) (time : ℕ) (owner : BlockId → ℕ) (rank : ℕ) → KeepsRoots c → All AreLinkedInside (part_of (blocks_at c time) owner rank)
+part_inside c time owner rank runs = part_each AreLinkedInside c time owner rank (λ i has its.
+    All-map (λ (link : Link). InShape c.roots link.id) (link_to owner) (filter (touches c.roots i) (ids_of (model c time)))
+    (All-filter (touches c.roots i) (InShape c.roots) (ids_of (model c time)) (model_map c time runs).in_shape))
 
 -- their owners are ranks
 pub part_owned : (c : Case) (time : ℕ) (members : List ℕ) (owner : BlockId → ℕ) (rank : ℕ) → AreAmong members (blocks_at c time) owner

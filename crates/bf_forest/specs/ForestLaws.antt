@@ -56,7 +56,7 @@ sides setup = record {
 
     -- calls leave the side of the agreed snapshot
     by : (epoch : Epoch) (stage : Stage) → KeepsSide view_in (play_of (case_of setup) epoch stage)
-    by epoch (Step time) = lens_keeps view_in step_lens (as_delivery (step_play (case_of setup).roots)) (λ local n. refl)
+    by epoch (Step time) = lens_keeps view_in step_lens (as_delivery step_play) (λ local n. refl)
     by epoch Snapshot = record { out = λ local to. refl; hear = λ local peer msg. heard (view_in local) _; finish = λ local. refl }
     by epoch Over = record { out = λ local to. refl; hear = λ local peer msg. refl; finish = λ local. refl }
 

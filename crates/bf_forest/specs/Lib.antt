@@ -5,7 +5,6 @@ pub mod Stages
 pub mod ModelBlocks
 pub mod Starts
 pub mod Locals
-pub mod Surrounding
 pub mod Rounds
 pub mod Peers
 pub mod Meanings
@@ -18,7 +17,6 @@ pub mod StageLaws
 pub mod BlockLaws
 pub mod NeighborLaws
 pub mod StripLaws
-pub mod SurroundingLaws
 pub mod StepLaws
 pub mod BoxLaws
 pub mod RoundLaws

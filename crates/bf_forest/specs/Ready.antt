@@ -1,6 +1,5 @@
 -- What a rank's blocks must be to tell others, and to be stepped.
 use Rattle.std.specs.Prelude.{◌≡◌, ℕ, ◌<◌, List, ◌++◌, length, get_or, map, All, AllPairs}
-use Rattle.bf_id.specs.declared.shape.Shape.{Shape}
 use Rattle.bf_id.specs.Id.{BlockId, InShape}
 use Rattle.bf_id.specs.Walk.{IsBefore}
 use Rattle.bf_case.specs.declared.case.Case.{Case}
@@ -16,24 +15,23 @@ use Rattle.bf_forest.specs.declared.stage.Stage.TheVariants.{Step, Snapshot, Ove
 use Rattle.bf_forest.specs.ModelBlocks.{IsBlockAt}
 use Rattle.bf_forest.specs.Rounds.{strips_to}
 
--- a block lies in the domain, and so do all leaves that it is linked with
-pub record IsLinkedIn (shape : Shape) (b : LinkedBlock) : Type 0 where
-  pub own : InShape shape b.block.id
-  pub links : All (λ (link : Link). InShape shape link.id) b.links
+-- all leaves that a block is linked with lie in the domain
+abbrev pub AreLinkedInside : LinkedBlock → Type 0
+AreLinkedInside b = All (λ (link : Link). InShape b.block.case.roots link.id) b.links
 
 -- each owner in the links is below 32, as ranks are
 abbrev pub AreOwnedBelow : List LinkedBlock → Type 0
 AreOwnedBelow blocks = All (λ (b : LinkedBlock). All (λ (link : Link). link.owner < 32) b.links) blocks
 
 -- so all of a rank's blocks
-abbrev pub CanTell : Case → ForestLocal → Type 0
-CanTell c local = All (IsLinkedIn c.roots) local.blocks
+abbrev pub CanTell : ForestLocal → Type 0
+CanTell local = All AreLinkedInside local.blocks
 
 -- what a message needs
-abbrev pub CanSend : Case → Stage → ForestLocal → Type 0
-CanSend c (Step time) local = CanTell c local
-CanSend c Snapshot local = Unit {0}
-CanSend c Over local = Unit {0}
+abbrev pub CanSend : Stage → ForestLocal → Type 0
+CanSend (Step time) local = CanTell local
+CanSend Snapshot local = Unit {0}
+CanSend Over local = Unit {0}
 
 -- blocks by rising id
 abbrev pub AreOrdered : List LinkedBlock → Type 0
@@ -66,9 +64,9 @@ groups_of strips blocks = map (λ (b : LinkedBlock). strips_for b.block.id strip
 
 -- all that a step needs; and the run goes on
 pub record IsReady (c : Case) (time : ℕ) (local : ForestLocal) : Type 0 where
-  pub tells : CanTell c local
+  pub tells : CanTell local
   pub ordered : AreOrdered local.blocks
-  pub told : All (CanStep c time (local.heard ++ strips_to c.roots local.rank local.blocks)) local.blocks
+  pub told : All (CanStep c time (local.heard ++ strips_to local.rank local.blocks)) local.blocks
   pub more : time < c.steps
 
 -- what the end of a round needs

@@ -45,8 +45,8 @@ use Rattle.bf_forest.specs.StepLaws.{stepped_part}
 -- A STEP on its own: the hands of a time lead to those of the next
 module _ (c : Case) (epoch : Epoch) (time : ℕ) (runs : KeepsRoots c) (owner : BlockId → ℕ) where
   pub step_by : IsStrictlyIncreasing epoch.members → AreAmong epoch.members (blocks_at c time) owner
-      → LeadsBy (as_delivery (step_play c.roots)) epoch.members (step_course c epoch time owner) (λ rank. hand_at c time owner rank []) (λ rank. hand_at c (time + 1) owner rank [])
-  step_by up owned = gathers_by (step_play c.roots) (λ peer msg. msg) (hand_at c time owner) epoch.members (λ rank. hand_at c time owner rank [])
+      → LeadsBy (as_delivery step_play) epoch.members (step_course c epoch time owner) (λ rank. hand_at c time owner rank []) (λ rank. hand_at c (time + 1) owner rank [])
+  step_by up owned = gathers_by step_play (λ peer msg. msg) (hand_at c time owner) epoch.members (λ rank. hand_at c time owner rank [])
       (λ rank. hand_at c (time + 1) owner rank []) (λ rank other. is_neighbor rank (part_of (blocks_at c time) owner rank) other)
       up (neighbors_mutual c time owner epoch.members) (record {
         none = λ rank is_in. refl;
@@ -63,7 +63,7 @@ abbrev on_hand : Voxel → Hand (List StripValue) LinkedBlock → ℕ
 on_hand unit hand = with_unit unit hand.items
 
 -- no box comes or goes by a step
-step_weighs : (c : Case) (unit : Voxel) → Weighs (on_hand unit) (λ word. 0) (as_delivery (step_play c.roots))
+step_weighs : (c : Case) (unit : Voxel) → Weighs (on_hand unit) (λ word. 0) (as_delivery step_play)
 unfolding stepped_all
 step_weighs c unit = record {
   out = λ hand to. add-zero (on_hand unit hand);
@@ -92,9 +92,9 @@ module _ (setup : Setup) (epoch : Epoch) where
       → LeadsTo (Step time) next
   step_follows time next same among =
       let runs = every_setup_keeps_roots setup in
-      part_follows forest forest_staging setup pieces epoch (Step time) next (as_delivery (step_play case.roots)) embed embed StepMessage (λ world. step_course case epoch time world.owner)
+      part_follows forest forest_staging setup pieces epoch (Step time) next (as_delivery step_play) embed embed StepMessage (λ world. step_course case epoch time world.owner)
       (λ world rank. hand_at case time world.owner rank []) (λ world rank. hand_at case (time + 1) world.owner rank []) on_hand (λ unit word. 0) (λ unit world rank. 0) (record {
-        part = λ world. lens_part step_lens (as_delivery (step_play case.roots)) (embed world) (record { taken = λ rank n. refl; given = λ rank n now. refl; read = λ word. refl });
+        part = λ world. lens_part step_lens (as_delivery step_play) (embed world) (record { taken = λ rank n. refl; given = λ rank n now. refl; read = λ word. refl });
         course_is = λ world. refl;
         before_is = λ world rank placed is_in. refl;
         after_is = λ world rank placed is_in. same world rank;

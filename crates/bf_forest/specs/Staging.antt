@@ -60,7 +60,7 @@ local_of_hand c epoch world rank hand = record {
 
 -- the courses of the rounds
 abbrev pub step_course : Case → Epoch → (time : ℕ) → (owner : BlockId → ℕ) → Course (Hand (List StripValue) LinkedBlock) (List StripValue)
-step_course c epoch time owner = gathering (step_play c.roots) (λ peer msg. msg) (hand_at c time owner) epoch.members (λ rank. hand_at c time owner rank [])
+step_course c epoch time owner = gathering step_play (λ peer msg. msg) (hand_at c time owner) epoch.members (λ rank. hand_at c time owner rank [])
 
 abbrev pub course_in : Case → Epoch → Stage → World BlockId → Course ForestLocal Message
 course_in c epoch (Step time) world = lifted (local_of_hand c epoch world) StepMessage (step_course c epoch time world.owner)

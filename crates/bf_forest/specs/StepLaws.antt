@@ -30,8 +30,8 @@ use Rattle.bf_forest.specs.Cases.{KeepsRoots}
 use Rattle.bf_forest.specs.ModelBlocks.{cells_or, block_at, linked_at, blocks_at, IsBlockAt}
 use Rattle.bf_forest.specs.Rounds.{stepped_by, stepped_all, strips_to}
 use Rattle.bf_forest.specs.StripLaws.{heard, all_told, strips_are_all}
-use Rattle.bf_forest.specs.Surrounding.{surrounding}
-use Rattle.bf_forest.specs.SurroundingLaws.{surrounding_holds, surrounding_side}
+use Rattle.bf_ghost.specs.Surrounding.{surrounding}
+use Rattle.bf_ghost.proofs.SurroundingLemmas.{surrounding_holds, surrounding_side}
 
 module _ (c : Case) (time : ℕ) (runs : KeepsRoots c) where
   -- the model's cells of a leaf, one step later, by the strips that are told to it
@@ -89,12 +89,12 @@ module _ (c : Case) (time : ℕ) (runs : KeepsRoots c) where
 
   -- and a rank's part of a time becomes its part of the next
   pub stepped_part : (owner : BlockId → ℕ) (members : List ℕ) (rank : ℕ) (told : List StripValue) → AreAmong members (blocks_at c time) owner → told ≡ heard c time owner members rank
-      → stepped_all c.roots rank told (part_of (blocks_at c time) owner rank) ≡ part_of (blocks_at c (time + 1)) owner rank
+      → stepped_all rank told (part_of (blocks_at c time) owner rank) ≡ part_of (blocks_at c (time + 1)) owner rank
   unfolding stepped_all part_of blocks_at
   stepped_part owner members rank told owned are =
       let own : List BlockId = filter (λ i. owner i == rank) (ids_of (model c time)) in
       let all : List StripValue = all_told c time owner members rank in
-      ap (λ (strips : List StripValue). map (stepped_by (strips ++ strips_to c.roots rank (map (linked_at c time owner) own))) (map (linked_at c time owner) own)) are
+      ap (λ (strips : List StripValue). map (stepped_by (strips ++ strips_to rank (map (linked_at c time owner) own))) (map (linked_at c time owner) own)) are
       ∙ map-map (stepped_by all) (linked_at c time owner) own
       ∙ map_each (λ i. stepped_by all (linked_at c time owner i)) (linked_at c (time + 1) owner) own
       (All-from_Contains (λ i. stepped_by all (linked_at c time owner i) ≡ linked_at c (time + 1) owner i) own (λ i has.

@@ -1,24 +1,21 @@
 -- What the members of a good vector have and tell: linked blocks, neighbours, strips.
-use Rattle.std.proofs.Common.{◌≡◌, ℕ, ◌<◌, Bool, true, false, cond, List, [], Contains, map, filter, flat_map, refl, sym, ap, subst, ◌∙◌, All}
+use Rattle.std.proofs.Common.{◌≡◌, ℕ, ◌<◌, Bool, true, false, cond, List, [], Contains, filter, refl, sym, ap, subst, ◌∙◌, All}
 use Rattle.std.specs.Prelude.{◌==◌, ◌&&◌, ◌↔◌, not}
 use Rattle.std.specs.List.{list_any}
 use Rattle.std.proofs.lemmas.Bool.{and_from, and_parts, eq-eqb, eqb-true}
-use Rattle.std.proofs.lemmas.List.{map-id}
 use Rattle.std.proofs.lemmas.List.Elements.{All-nil}
-use Rattle.std.proofs.lemmas.List.Folds.{flat_map-map}
-use Rattle.bf_lemmas.proofs.Lists.{All-from_Contains, filter_mapped, map_twice}
+use Rattle.bf_lemmas.proofs.Lists.{All-from_Contains}
 use Rattle.bf_id.specs.Id.{BlockId, touches}
 use Rattle.bf_case.specs.declared.case.Case.{Case}
-use Rattle.bf_case.specs.Map.{Leaf, ids_of}
+use Rattle.bf_case.specs.Map.{ids_of}
 use Rattle.bf_case.specs.Model.{model}
 use Rattle.bf_case.proofs.ListLemmas.{Contains-map_cases}
 use Rattle.bf_case.proofs.TestLemmas.{touches_decides, any_from_passes, passes_from_any, Contains-filter, Contains-filter_cases}
 use Rattle.bf_links.specs.declared.link.Link.{Link}
-use Rattle.bf_links.specs.Links.{is_owner, link_to, links_of, IsLinkOf}
+use Rattle.bf_links.specs.Links.{is_owner, links_of, IsLinkOf}
 use Rattle.bf_links.proofs.LinkLemmas.{links_exact}
 use Rattle.bf_ghost.specs.Strips.{StripValue}
-use Rattle.bf_ghost.specs.Telling.{strips_from, told_strips}
-use Rattle.bf_ghost.proofs.TellingLemmas.{flat_map_each, links_tell}
+use Rattle.bf_ghost.specs.Telling.{told_strips}
 use Rattle.bf_parts.specs.Leaves.{copy_at, part_of}
 use Rattle.bf_program.specs.declared.epoch.Epoch.{Epoch}
 use Rattle.bf_stages.specs.Plans.{span}
@@ -28,17 +25,17 @@ use Rattle.bf_forest.specs.declared.local.ForestLocal.{ForestLocal}
 use Rattle.bf_forest.specs.declared.setup.Setup.{Setup}
 use Rattle.bf_forest.specs.declared.stage.Stage.{Stage}
 use Rattle.bf_forest.specs.Setup.{case_of, every_setup_keeps_roots}
-use Rattle.bf_forest.specs.BlockLaws.{block_is, model_map, part_each}
+use Rattle.bf_forest.specs.BlockLaws.{block_is, part_each}
 use Rattle.bf_forest.specs.Cases.{KeepsRoots}
 use Rattle.bf_forest.specs.Goods.{local_at, AreDealt, AreNeighbors, HasLinked, IsGood, IsLinkedBlock}
 use Rattle.bf_forest.specs.LeafLaws.{all_dealt}
 use Rattle.bf_forest.specs.Meanings.{forest}
 use Rattle.bf_forest.specs.ModelBlocks.{blocks_at, linked_at}
 use Rattle.bf_forest.specs.NeighborLaws.{linked_is}
-use Rattle.bf_forest.specs.Rounds.{is_linked, is_neighbor, play_of, strips_of, strips_to}
+use Rattle.bf_forest.specs.Rounds.{is_linked, is_neighbor, play_of, strips_to}
 use Rattle.bf_forest.specs.StageLaws.{stage_step}
 use Rattle.bf_forest.specs.Stages.{time_at}
-use Rattle.bf_forest.specs.StripLaws.{leaf_is}
+use Rattle.bf_forest.specs.StripLaws.{part_tells}
 
 -- LINKS
 part_linked : (c : Case) (time : ℕ) (owner : BlockId → ℕ) (rank : ℕ) → KeepsRoots c → All (IsLinkedBlock c time owner rank) (part_of (blocks_at c time) owner rank)
@@ -154,28 +151,6 @@ step_peers setup epoch round locals good before =
     )
 
 -- STRIPS
-module _ (c : Case) (time : ℕ) (owner : BlockId → ℕ) (runs : KeepsRoots c) where
-  one_told : (to : ℕ) (leaf : Leaf) → Contains (model c time) leaf
-      → strips_of c.roots to (linked_at c time owner leaf.0) ≡ strips_from c.roots leaf (filter (λ i. owner i == to) (filter (touches c.roots leaf.0) (ids_of (model c time))))
-  one_told to leaf has =
-      let near : List BlockId = filter (touches c.roots leaf.0) (ids_of (model c time)) in
-      ap (λ (l : Leaf). strips_from c.roots l (map (λ (link : Link). link.id) (filter (λ (link : Link). link.owner == to) (map (link_to owner) near)))) (leaf_is c time runs owner leaf has)
-      ∙ ap (λ (ls : List Link). strips_from c.roots leaf (map (λ (link : Link). link.id) ls)) (filter_mapped (λ (link : Link). link.owner == to) (link_to owner) near)
-      ∙ ap (strips_from c.roots leaf) (map_twice (λ (link : Link). link.id) (link_to owner) (λ i. i) (λ i. refl) (filter (λ i. owner i == to) near) ∙ map-id (filter (λ i. owner i == to) near))
-
-  pub part_tells : (from to : ℕ) → strips_to c.roots to (part_of (blocks_at c time) owner from) ≡ told_strips c.roots (model c time) owner from to
-  unfolding strips_to part_of blocks_at
-  part_tells from to =
-      let mine : List Leaf = filter (λ (l : Leaf). owner l.0 == from) (model c time) in
-      let near : BlockId → List BlockId = λ i. filter (touches c.roots i) (ids_of (model c time)) in
-      ap (λ (is : List BlockId). flat_map (strips_of c.roots to) (map (linked_at c time owner) is)) (filter_mapped (λ i. owner i == from) (λ (l : Leaf). l.0) (model c time))
-      ∙ flat_map-map (strips_of c.roots to) (linked_at c time owner) (map (λ (l : Leaf). l.0) mine)
-      ∙ flat_map-map (λ i. strips_of c.roots to (linked_at c time owner i)) (λ (l : Leaf). l.0) mine
-      ∙ flat_map_each (λ (l : Leaf). strips_of c.roots to (linked_at c time owner l.0)) (λ (l : Leaf). strips_from c.roots l (filter (λ i. owner i == to) (near l.0))) mine
-      (All-from_Contains (λ (l : Leaf). strips_of c.roots to (linked_at c time owner l.0) ≡ strips_from c.roots l (filter (λ i. owner i == to) (near l.0))) mine
-      (λ l among. one_told to l (Contains-filter_cases (λ (l : Leaf). owner l.0 == from) (model c time) l among).0))
-      ∙ links_tell c.roots c.side (model c time) near owner from to runs.valid.sized.shape (model_map c time runs) (λ leaf has. refl)
-
 pub step_tells : (setup : Setup) (epoch : Epoch) (round : ℕ) (locals : List ForestLocal) → IsGood setup epoch round locals → round < span epoch
     → (owner : BlockId → ℕ) × (home : BlockId → ℕ) × AreDealt (case_of setup) epoch round owner home locals
     × ((local : ForestLocal) (to : ℕ) → Contains locals local
@@ -190,7 +165,7 @@ step_tells setup epoch round locals good before =
       λ local to there.
           let is = local_is c epoch round owner has.1 locals local has.2 there in
           ap (λ (stage : Stage). ((play_of c epoch stage).out local to).1) (stage_step epoch round before)
-          ∙ ap (λ (l : ForestLocal). StepMessage (strips_to c.roots to l.blocks)) is.2
-          ∙ ap (λ (strips : List StripValue). StepMessage strips) (part_tells c (time_at epoch round) owner (every_setup_keeps_roots setup) is.0 to)
+          ∙ ap (λ (l : ForestLocal). StepMessage (strips_to to l.blocks)) is.2
+          ∙ ap (λ (strips : List StripValue). StepMessage strips) (part_tells c (time_at epoch round) (every_setup_keeps_roots setup) owner is.0 to)
           ∙ ap (λ (rank : ℕ). StepMessage (told_strips c.roots (model c (time_at epoch round)) owner rank to)) (sym (ap (λ (l : ForestLocal). l.rank) is.2)),
     )

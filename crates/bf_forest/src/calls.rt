@@ -20,18 +20,12 @@ use bf_program::Epoch;
 use std::alloc::Global;
 
 // What a rank's blocks tell those of another rank.
-fn told(alloc: Global, setup: &Setup, local: &ForestLocal, to: u32) -> Result<Items<Strip>, Memory>
-    requires { CanTell (case_of setup.now) local.now }
-    ensures { IfOk result (λ strips. strips ≡ strips_to (case_of setup.now).roots to local.now.blocks) }
+fn told(alloc: Global, local: &ForestLocal, to: u32) -> Result<Items<Strip>, Memory>
+    requires { CanTell local.now }
+    ensures { IfOk result (λ strips. strips ≡ strips_to to local.now.blocks) }
 {
     let mut strips = Vec::new(alloc);
-    tell_all(
-        alloc,
-        &mut strips,
-        local.blocks.as_slice(),
-        to,
-        setup.roots(),
-    )?;
+    tell_all(alloc, &mut strips, local.blocks.as_slice(), to)?;
     Ok(Items::of(strips))
 }
 
@@ -61,11 +55,11 @@ pub fn send(
     local: &ForestLocal,
     to: u32,
 ) -> Result<Message, Memory>
-    requires { CanSend (case_of setup.now) stage local.now }
+    requires { CanSend stage local.now }
     ensures { IfOk result (λ msg. ((play_of (case_of setup.now) epoch stage).out local.now to) ≡ (local.now, msg)) }
 {
     match stage {
-        Stage::Step { .. } => Ok(Message::Step(told(alloc, setup, local, to)?)),
+        Stage::Step { .. } => Ok(Message::Step(told(alloc, local, to)?)),
         Stage::Snapshot => {
             let part = given(alloc, epoch.members, setup.shift(), local, to)?;
             Ok(Message::Snapshot(part))

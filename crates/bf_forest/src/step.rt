@@ -28,7 +28,7 @@ fn stepped(
     ensures side { shell.new.side ≡ shell.old.side }
 {
     let LinkedBlock { block, links } = linked;
-    match step_between(alloc, shell, block.kept(), strips, setup.roots()) {
+    match step_between(alloc, shell, block.kept(), strips) {
         Ok(block) => {
             let _model = block.cells();
             Ok(LinkedBlock { block, links })
@@ -60,18 +60,12 @@ fn all_stepped(
 pub fn step(alloc: Global, setup: &Setup, local: &mut ForestLocal) -> Result<(), Memory>
     requires { (time : ℕ) × IsReady (case_of setup.now) time local.old }
     ensures { OnOk result (local.new ≡ (record local.old {
-      blocks = stepped_all (case_of setup.now).roots local.old.rank local.old.heard local.old.blocks;
+      blocks = stepped_all local.old.rank local.old.heard local.old.blocks;
       heard = [];
     })) }
 {
     let mut strips = local.heard.moved().into_vec();
-    tell_all(
-        alloc,
-        &mut strips,
-        local.blocks.as_slice(),
-        local.rank,
-        setup.roots(),
-    )?;
+    tell_all(alloc, &mut strips, local.blocks.as_slice(), local.rank)?;
     let groups = grouped(alloc, local.blocks.as_slice(), strips)?;
     local.blocks = all_stepped(alloc, setup, local.blocks.moved(), groups)?;
     Ok(())

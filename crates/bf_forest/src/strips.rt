@@ -1,12 +1,11 @@
 //! What blocks tell each other.
-ghost use Rattle.std.specs.Prelude.{◌≡◌, ◌++◌, All, IfOk, MatchResult, OnOk, map};
-ghost use Rattle.bf_id.specs.Shape.{IsShape};
-ghost use Rattle.bf_forest.specs.Ready.{groups_of, AreOrdered, IsLinkedIn, StandsAt, StandsNowhere};
+ghost use Rattle.std.specs.Prelude.{◌≡◌, ◌++◌, [], All, IfOk, MatchResult, OnOk, map, replicate};
+ghost use Rattle.bf_forest.specs.Ready.{groups_of, AreLinkedInside, AreOrdered, StandsAt, StandsNowhere};
 ghost use Rattle.bf_forest.specs.Rounds.{strips_of, strips_to};
 
 use bf_block::Memory;
 use bf_ghost::{Strip, strip_to};
-use bf_id::{Id, Shape};
+use bf_id::Id;
 use bf_msg::LinkedBlock;
 use std::alloc::Global;
 
@@ -16,15 +15,13 @@ fn tell(
     strips: &mut Vec<Strip>,
     linked: &LinkedBlock,
     to: u32,
-    shape: Shape,
 ) -> Result<(), Memory>
-    requires domain { IsShape shape }
-    requires linked { IsLinkedIn shape linked.now }
-    ensures { OnOk result (strips.new.items ≡ strips.old.items ++ strips_of shape to linked.now) }
+    requires { AreLinkedInside linked.now }
+    ensures { OnOk result (strips.new.items ≡ strips.old.items ++ strips_of to linked.now) }
 {
     for link in linked.links.as_slice() {
         if link.owner == to {
-            if let Some(strip) = strip_to(alloc, &linked.block, link.id, shape)? {
+            if let Some(strip) = strip_to(alloc, &linked.block, link.id)? {
                 strips.push(strip)?;
             }
         }
@@ -39,14 +36,12 @@ pub fn tell_all(
     strips: &mut Vec<Strip>,
     blocks: &[LinkedBlock],
     to: u32,
-    shape: Shape,
 ) -> Result<(), Memory>
-    requires domain { IsShape shape }
-    requires linked { All (IsLinkedIn shape) blocks.now }
-    ensures { OnOk result (strips.new.items ≡ strips.old.items ++ strips_to shape to blocks.now) }
+    requires { All AreLinkedInside blocks.now }
+    ensures { OnOk result (strips.new.items ≡ strips.old.items ++ strips_to to blocks.now) }
 {
     for linked in blocks {
-        tell(alloc, strips, linked, to, shape)?;
+        tell(alloc, strips, linked, to)?;
     }
     Ok(())
 }
@@ -59,6 +54,17 @@ fn place_of(blocks: &[LinkedBlock], id: Id) -> Result<usize, usize>
     blocks.binary_search_by_key(&id, |linked| linked.block.id())
 }
 
+// As many empty groups.
+fn empty_groups(alloc: Global, count: usize) -> Result<Vec<Vec<Strip>>, Memory>
+    ensures { IfOk result (λ groups. map (λ group. group.items) groups.items ≡ replicate count []) }
+{
+    let mut groups = Vec::with_capacity(alloc, count)?;
+    for _ in 0..count {
+        groups.push(Vec::new(alloc))?;
+    }
+    Ok(groups)
+}
+
 /// For each block what it is told, in the order in which it was told. What is for none of them is let go.
 pub fn grouped(
     alloc: Global,
@@ -68,10 +74,7 @@ pub fn grouped(
     requires { AreOrdered blocks.now }
     ensures { IfOk result (λ groups. map (λ group. group.items) groups.items ≡ groups_of strips.items blocks.now) }
 {
-    let mut groups = Vec::with_capacity(alloc, blocks.len())?;
-    for _ in 0..blocks.len() {
-        groups.push(Vec::new(alloc))?;
-    }
+    let mut groups = empty_groups(alloc, blocks.len())?;
     for strip in strips {
         if let Ok(place) = place_of(blocks, strip.target()) {
             groups[place].push(strip)?;

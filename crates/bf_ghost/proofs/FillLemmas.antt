@@ -9,7 +9,7 @@ use Rattle.bf_face.specs.declared.face.Face.{Face}
 use Rattle.bf_face.specs.declared.face.Face.TheVariants.{XLow, XHigh, YLow, YHigh, ZLow, ZHigh}
 use Rattle.bf_id.specs.declared.shape.Shape.{Shape}
 use Rattle.bf_id.specs.Cube.{Cube}
-use Rattle.bf_id.specs.Id.{BlockId, level_of, box_of}
+use Rattle.bf_id.specs.Id.{BlockId, InShape, level_of, box_of}
 use Rattle.bf_id.specs.Neighbours.{IsAtEdge}
 use Rattle.bf_id.specs.Shape.{IsShape, axis_x, axis_y, axis_z}
 use Rattle.bf_id.specs.Tiling.{IsBalanced}
@@ -17,12 +17,12 @@ use Rattle.bf_cells.specs.Grid.{Grid}
 use Rattle.bf_cells.specs.Shell.{Walls, face_values, wall_at, wall_of, wall_place, with_wall}
 use Rattle.bf_cells.proofs.WallLemmas.{get_or-face_values, wall_at-with_wall_other, wall_at-with_wall_same}
 use Rattle.bf_case.specs.Beside.{value_beside, HoldsBeside, HoldSamples}
-use Rattle.bf_case.specs.Case.{IsValid}
 use Rattle.bf_case.specs.Halves.{is_opposite, ShareFace}
 use Rattle.bf_case.specs.Map.{Leaf, IsMap, ids_of}
 use Rattle.bf_case.specs.Sample.{scale_of}
 use Rattle.bf_case.proofs.AcrossLemmas.{edge_beside, EndsIn}
 use Rattle.bf_case.proofs.FaceLemmas.{leaf_is, shared_is_inner, some_opposite}
+use Rattle.bf_case.proofs.ListLemmas.{Contains-map}
 use Rattle.bf_case.proofs.LookupLemmas.{leaf_from_cells_at}
 use Rattle.bf_case.proofs.ModelLemmas.{balanced-model_at}
 use Rattle.bf_block.specs.Block.{BlockValue, IsModels, map_at}
@@ -38,10 +38,18 @@ pub record AtHand (b : BlockValue) : Type 0 where
   pub balanced : IsBalanced b.case.roots (ids_of (map_at b.case b.point))
   pub has : Contains (map_at b.case b.point) (b.id, b.cells)
 
-pub at_hand : (b : BlockValue) → IsValid b.case → IsModels b → AtHand b
-at_hand b valid models =
+pub at_hand : (b : BlockValue) → IsModels b → AtHand b
+at_hand b models =
+    let valid = models.runs.valid in
     let is = balanced-model_at b.case b.point.time b.point.regridded valid in
     record { domain = valid.sized.shape; map = is.map; balanced = is.balanced; has = leaf_from_cells_at (map_at b.case b.point) b.id b.cells models.leaf }
+
+-- it lies in the domain
+pub in_shape : (b : BlockValue) → IsModels b → InShape b.case.roots b.id
+in_shape b models =
+    let at = at_hand b models in
+    let leaves = map_at b.case b.point in
+    All-contains (InShape b.case.roots) (ids_of leaves) b.id at.map.in_shape (Contains-map (λ (leaf : Leaf). leaf.0) leaves (b.id, b.cells) at.has)
 
 -- ---- one strip
 

@@ -1,4 +1,5 @@
 pub mod SharingLemmas
 pub mod StripLemmas
 pub mod FillLemmas
+pub mod SurroundingLemmas
 pub mod TellingLemmas

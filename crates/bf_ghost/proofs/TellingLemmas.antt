@@ -117,7 +117,8 @@ strips_of_links shape side leaves cells near i g domain is own told linked = rec
 -- ---- by ranks
 
 pub told_are_all : (shape : Shape) (side : ℕ) (leaves : List Leaf) (owner : BlockId → ℕ) (ranks : List ℕ) (i : BlockId) (g : Grid) → IsShape shape → IsMap shape side leaves
-    → Contains leaves (i, g) → ((leaf : Leaf) → Contains leaves leaf → Contains ranks (owner leaf.0))
+    → Contains leaves (i, g)
+    → ((leaf : Leaf) (face : Face) → Contains leaves leaf → SharesFace shape face (box_of shape i) (box_of shape leaf.0) → Contains ranks (owner leaf.0))
     → AreStripsFor shape leaves i (heard_by shape leaves owner ranks (owner i) i)
 told_are_all shape side leaves owner ranks i g domain is own owned = record {
   fit = All-from_Contains (IsStripFor shape leaves i) (heard_by shape leaves owner ranks (owner i) i) genuine;
@@ -157,7 +158,7 @@ told_are_all shape side leaves owner ranks i g domain is own owned = record {
         let source = Contains-filter (λ (l : Leaf). owner l.0 == owner leaf.0) leaves leaf has (eq-eqb (owner leaf.0) (owner leaf.0) refl) in
         let sent = Contains-flat_map (λ (l : Leaf). strips_from shape l targets) (sources (owner leaf.0)) leaf strip source made in
         let mine = Contains-filter (λ (s : StripValue). id_eq s.target i) (told_strips shape leaves owner (owner leaf.0) rank) strip sent ((id_eq_is_equal i i).1 refl) in
-        Contains-flat_map (λ p. strips_for i (told_strips shape leaves owner p rank)) ranks (owner leaf.0) strip (owned leaf has) mine
+        Contains-flat_map (λ p. strips_for i (told_strips shape leaves owner p rank)) ranks (owner leaf.0) strip (owned leaf face has share) mine
 
 -- ---- by the links of a rank's leaves
 

@@ -2,3 +2,4 @@
 pub mod Strips
 pub mod Filling
 pub mod Telling
+pub mod Surrounding

@@ -3,19 +3,16 @@ ghost use Rattle.std.specs.Prelude.{◌≡◌, ◌<◌, ◌+◌, All, IsTrue, If
 ghost use Rattle.bf_block.specs.Block.{before_regrid, map_at};
 ghost use Rattle.bf_cells.specs.Shell.{face_values, with_wall};
 ghost use Rattle.bf_case.specs.Beside.{HoldSamples};
-ghost use Rattle.bf_case.specs.Case.{IsValid};
 ghost use Rattle.bf_ghost.specs.Filling.{AreStripsFor, HoldEdges, HoldsPart, IsStripFor, KeepsRest};
 
 use crate::strip::{Strip, lay};
 use bf_block::{Block, Kept};
 use bf_cells::Shell;
 use bf_face::Face;
-use bf_id::Shape;
 use std::alloc::Global;
 
 /// Lays a strip for a block beside the part of the block's face that it is for.
 pub fn fill(shell: &mut Shell, block: &Block, strip: &Strip)
-    requires valid { IsValid block.now.case }
     requires side { shell.old.side ≡ block.now.case.side }
     requires strip { IsStripFor block.now.case.roots (map_at block.now.case block.now.point) block.now.id strip.now }
     ensures part { HoldsPart block.now.case.roots (map_at block.now.case block.now.point) block.now.id block.now.cells shell.new strip.now }
@@ -36,14 +33,13 @@ pub fn mirror(shell: &mut Shell, block: &Block, face: Face)
 }
 
 // Lays a block's own cells beside each face at the domain's edge.
-fn mirror_edges(shell: &mut Shell, block: &Block, shape: Shape)
-    requires valid { IsValid block.now.case }
-    requires shape { shape ≡ block.now.case.roots }
+fn mirror_edges(shell: &mut Shell, block: &Block)
     requires side { shell.old.side ≡ block.now.case.side }
     ensures edges { HoldEdges block.now.case.roots (map_at block.now.case block.now.point) block.now.id block.now.cells shell.new }
     ensures side { shell.new.side ≡ shell.old.side }
 {
     let _model = block.cells();
+    let shape = block.shape();
     let cube = block.id().cube(shape);
     for face in Face::ALL {
         if cube.is_at_edge(shape, face) {
@@ -54,7 +50,6 @@ fn mirror_edges(shell: &mut Shell, block: &Block, shape: Shape)
 
 // Lays strips for a block, in whatever order.
 fn fill_all(shell: &mut Shell, block: &Block, strips: &[Strip])
-    requires valid { IsValid block.now.case }
     requires side { shell.old.side ≡ block.now.case.side }
     requires strips { All (IsStripFor block.now.case.roots (map_at block.now.case block.now.point) block.now.id) strips.now }
     ensures parts { All (HoldsPart block.now.case.roots (map_at block.now.case block.now.point) block.now.id block.now.cells shell.new) strips.now }
@@ -70,16 +65,14 @@ fn fill_all(shell: &mut Shell, block: &Block, strips: &[Strip])
 
 /// Lays all that lies beside a block: the strips of the leaves that share a face with it, in whatever order, and its own cells at
 /// the domain's edge.
-pub fn surround(shell: &mut Shell, block: &Block, strips: &[Strip], shape: Shape)
-    requires valid { IsValid block.now.case }
-    requires shape { shape ≡ block.now.case.roots }
+pub fn surround(shell: &mut Shell, block: &Block, strips: &[Strip])
     requires side { shell.old.side ≡ block.now.case.side }
     requires strips { AreStripsFor block.now.case.roots (map_at block.now.case block.now.point) block.now.id strips.now }
     ensures samples { HoldSamples block.now.case.roots (map_at block.now.case block.now.point) block.now.id block.now.cells shell.new }
     ensures side { shell.new.side ≡ shell.old.side }
 {
     let _model = block.cells();
-    mirror_edges(shell, block, shape);
+    mirror_edges(shell, block);
     fill_all(shell, block, strips);
 }
 
@@ -90,12 +83,9 @@ pub fn step(
     shell: &mut Shell,
     block: Block,
     strips: &[Strip],
-    shape: Shape,
 ) -> Result<Block, Kept<Block>>
-    requires valid { IsValid block.case }
     requires regridded { IsTrue block.point.regridded }
     requires time { block.point.time < block.case.steps }
-    requires shape { shape ≡ block.case.roots }
     requires side { shell.old.side ≡ block.case.side }
     requires strips { AreStripsFor block.case.roots (map_at block.case block.point) block.id strips.now }
     ensures id { IfOk result (λ next. next.id ≡ block.id) }
@@ -104,7 +94,7 @@ pub fn step(
     ensures kept { IfErr result (λ kept. kept.value ≡ block) }
     ensures side { shell.new.side ≡ shell.old.side }
 {
-    surround(shell, &block, strips, shape);
+    surround(shell, &block, strips);
     let _fits = block.cells();
     block.stepped(alloc, shell)
 }

@@ -6,11 +6,14 @@ ghost use Rattle.bf_id.specs.Face.{SharesFace};
 ghost use Rattle.bf_id.specs.Id.{box_of, touches, BlockId};
 ghost use Rattle.bf_id.specs.Shape.{IsShape};
 ghost use Rattle.bf_id.specs.Sharing.{shared_face};
+ghost use Rattle.bf_id.specs.Tiling.{IsBalanced};
 ghost use Rattle.bf_cells.specs.Grid.{Grid};
+ghost use Rattle.bf_case.specs.Beside.{HoldSamples};
 ghost use Rattle.bf_case.specs.Map.{ids_of, IsMap, Leaf};
 ghost use Rattle.bf_block.specs.Block.{leaf_of, map_at, BlockValue, IsModels};
 ghost use Rattle.bf_ghost.specs.Filling.{AreStripsFor, IsStripFor};
 ghost use Rattle.bf_ghost.specs.Strips.{StripValue};
+ghost use Rattle.bf_ghost.specs.Surrounding.{surrounding};
 ghost use Rattle.bf_ghost.specs.Telling.{heard_by, linked_strips, strip_between, strips_among, told_strips};
 
 /// The face that is found of two blocks is the one that they share.
@@ -44,12 +47,20 @@ pub fn strips_come_in_any_order()
         → AreStripsFor shape leaves i others }
 {}
 
-/// What ranks tell to a leaf of one of them are the strips of all leaves that share a face with it, where every leaf's owner is
-/// among these ranks.
+/// A block's own cells with the strips of all leaves that share a face with it laid over them, in their order, hold the samples
+/// around it.
+pub fn all_strips_surround_a_block()
+    ensures { (shape : Shape) (side : ℕ) (leaves : List Leaf) (i : BlockId) (g : Grid) (strips : List StripValue)
+        → IsShape shape → IsMap shape side leaves → IsBalanced shape (ids_of leaves) → Contains leaves (i, g) → AreStripsFor shape leaves i strips
+        → HoldSamples shape leaves i g (surrounding g strips) }
+{}
+
+/// What ranks tell to a leaf of one of them are the strips of all leaves that share a face with it, where the owner of each of
+/// those is among these ranks.
 pub fn strips_told_are_all()
     ensures { (shape : Shape) (side : ℕ) (leaves : List Leaf) (owner : BlockId → ℕ) (ranks : List ℕ) (i : BlockId) (g : Grid)
         → IsShape shape → IsMap shape side leaves → Contains leaves (i, g)
-        → ((leaf : Leaf) → Contains leaves leaf → Contains ranks (owner leaf.0))
+        → ((leaf : Leaf) (face : Face) → Contains leaves leaf → SharesFace shape face (box_of shape i) (box_of shape leaf.0) → Contains ranks (owner leaf.0))
         → AreStripsFor shape leaves i (heard_by shape leaves owner ranks (owner i) i) }
 {}
 

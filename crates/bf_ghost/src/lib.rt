@@ -12,7 +12,7 @@ mod strip;
 
 pub use filling::{fill, mirror, step, surround};
 pub use std::alloc::AllocError as Memory;
-pub use strip::{Strip, strip_for, strip_to};
+pub use strip::{Strip, strip_for, strip_to, sum_of};
 
 #[cfg(test)]
 mod tests;

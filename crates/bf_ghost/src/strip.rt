@@ -1,7 +1,6 @@
 ghost use Rattle.std.specs.Prelude.{◌≡◌, ℕ, ◌*◌, ◌%◌, ◌/◌, ◌^◌, ◌≤◌, length, sum, IfOk, Some, None};
 ghost use Rattle.bf_id.specs.Face.{SharesFace};
 ghost use Rattle.bf_id.specs.Id.{box_of, InShape};
-ghost use Rattle.bf_id.specs.Shape.{IsShape};
 ghost use Rattle.bf_block.specs.Block.{leaf_of};
 ghost use Rattle.bf_ghost.specs.Strips.{level_cmp, strip_of, strip_side, strip_values, with_strip};
 ghost use Rattle.bf_ghost.specs.Telling.{strip_between};
@@ -11,7 +10,7 @@ use bf_block::Block;
 use bf_case::halves_along;
 use bf_cells::{Cells, Shell};
 use bf_face::Face;
-use bf_id::{Id, Shape};
+use bf_id::Id;
 use std::alloc::Global;
 use std::cmp::Ordering;
 use std::marker::Model;
@@ -70,7 +69,8 @@ impl Strip {
     }
 }
 
-fn sum_of(values: &[u32]) -> u64
+/// The sum of values, modulo 2^64.
+pub fn sum_of(values: &[u32]) -> u64
     ensures { result ≡ sum values.now % 2 ^ 64 }
 {
     let mut sum = 0u64;
@@ -137,34 +137,27 @@ pub(crate) fn strip_across(
 }
 
 /// What a block tells to a block with which it shares a face.
-pub fn strip_for(alloc: Global, block: &Block, target: Id, shape: Shape) -> Result<Strip, Memory>
-    requires domain { IsShape shape }
-    requires inside { InShape shape target }
-    requires own_inside { InShape shape block.now.id }
-    requires share { (face : Face) × SharesFace shape face (box_of shape target) (box_of shape block.now.id) }
-    ensures { IfOk result (λ strip. Some strip ≡ strip_between shape (leaf_of block.now) target) }
+pub fn strip_for(alloc: Global, block: &Block, target: Id) -> Result<Strip, Memory>
+    requires inside { InShape block.now.case.roots target }
+    requires share { (face : Face) × SharesFace block.now.case.roots face (box_of block.now.case.roots target) (box_of block.now.case.roots block.now.id) }
+    ensures { IfOk result (λ strip. Some strip ≡ strip_between block.now.case.roots (leaf_of block.now) target) }
 {
-    match strip_to(alloc, block, target, shape)? {
+    let _model = block.cells();
+    match strip_to(alloc, block, target)? {
         Some(strip) => Ok(strip),
         None => unreachable!(),
     }
 }
 
 /// What a block tells to another one, if the two share a face.
-pub fn strip_to(
-    alloc: Global,
-    block: &Block,
-    target: Id,
-    shape: Shape,
-) -> Result<Option<Strip>, Memory>
-    requires domain { IsShape shape }
-    requires inside { InShape shape target }
-    requires own_inside { InShape shape block.now.id }
-    ensures { IfOk result (λ told. told ≡ strip_between shape (leaf_of block.now) target) }
+pub fn strip_to(alloc: Global, block: &Block, target: Id) -> Result<Option<Strip>, Memory>
+    requires inside { InShape block.now.case.roots target }
+    ensures { IfOk result (λ told. told ≡ strip_between block.now.case.roots (leaf_of block.now) target) }
 {
-    match target.face(block.id(), shape) {
+    let cells = block.cells();
+    match target.face(block.id(), block.shape()) {
         Some(face) => {
-            let strip = strip_across(alloc, block.id(), block.cells(), target, face)?;
+            let strip = strip_across(alloc, block.id(), cells, target, face)?;
             Ok(Some(strip))
         }
         None => Ok(None),

@@ -3,7 +3,7 @@ ghost use Rattle.std.specs.Prelude.{◌≡◌, ◌%◌, ◌^◌, sum};
 ghost use Rattle.bf_msg.specs.Messages.{measured, sum_of_blocks, sum_of_strips};
 
 use crate::LinkedBlock;
-use bf_ghost::Strip;
+use bf_ghost::{Strip, sum_of};
 use bf_items::Items;
 use bf_program::Measure;
 
@@ -15,17 +15,6 @@ pub enum Message {
     Step(Items<Strip>),
     /// The sender's part of the new snapshot, for its buddy alone.
     Snapshot(Option<Items<LinkedBlock>>),
-}
-
-// The sum of values, modulo 2^64.
-fn sum_of(values: &[u32]) -> u64
-    ensures { result ≡ sum values.now % 2 ^ 64 }
-{
-    let mut sum = 0u64;
-    for value in values {
-        sum = sum.wrapping_add(u64::from(*value));
-    }
-    sum
 }
 
 // The sum of the cells of blocks.

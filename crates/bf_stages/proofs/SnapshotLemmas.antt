@@ -8,15 +8,17 @@ use Rattle.std.proofs.Math.Nat.{add-zero}
 use Rattle.bf_buddy.specs.Members.{is_member, without}
 use Rattle.bf_buddy.specs.Buddy.{predecessor_of}
 use Rattle.bf_program.specs.declared.epoch.Epoch.{Epoch}
-use Rattle.bf_buddy.proofs.MemberLemmas.{member_filter}
+use Rattle.bf_buddy.proofs.MemberLemmas.{all_members, member_filter}
 use Rattle.bf_parts.specs.SideLaws.{gives_is, predecessor_member, source_is}
 use Rattle.bf_parts.specs.Sides.{gives, source_of}
 use Rattle.bf_rounds.specs.Gathering.{gathered, AreMutual, Gathers}
 use Rattle.bf_parts.specs.Leaves.{Leaves, part_of}
 use Rattle.bf_parts.specs.Views.{View}
 use Rattle.bf_parts.specs.Spreads.{Trio, view_at}
+use Rattle.bf_lemmas.proofs.Lists.{filter_alike}
 use Rattle.bf_lemmas.proofs.Tests.{eqb_swap}
 use Rattle.bf_parts.specs.SnapshotLaws.{paired_apart, paired_both, paired_holders}
+use Rattle.bf_parts.specs.SnapshotRounds.{are_paired}
 use Rattle.bf_stages.specs.Snapshots.{IsSight, sees_paired, sees_others, heard_part, given_part, snapshot_play, parts_in, holding_part, snapshot_course}
 use Rattle.bf_rounds.proofs.LeadLemmas.{gathers_by}
 use Rattle.bf_rounds.specs.Delivering.{as_delivery}
@@ -158,3 +160,21 @@ snapshot_weighs {I = I} sees shift epoch test = record {
     at : (view : View I) (msg : Option (List I)) → count_by test (heard_part view msg).items ≡ count_by test view.items + 0
     at view None = sym (add-zero (count_by test view.items))
     at view (Some items) = sym (add-zero (count_by test view.items))
+
+-- a test that nothing passes
+pub none_passes : (members : List ℕ) → filter (λ other. false) members ≡ []
+none_passes [] = refl
+none_passes (member ∷ members) = none_passes members
+
+paired_is : (members : List ℕ) (shift rank other : ℕ) → is_member members rank ≡ true → is_member members other ≡ true
+    → (not (other == rank) && (gives members shift rank other || gives members shift other rank)) ≡ are_paired members shift rank other
+unfolding gives are_paired
+paired_is members shift rank other is_in other_in = rw (is_in, other_in, eqb_swap other rank) refl
+
+-- whom a member asks for in the snapshot's round: those whose part it keeps or who keep its own
+pub paired_asked : (members : List ℕ) (shift rank : ℕ) → is_member members rank ≡ true
+    → filter (λ other. not (other == rank) && (gives members shift rank other || gives members shift other rank)) members ≡ filter (are_paired members shift rank) members
+paired_asked members shift rank is_in =
+    filter_alike (λ other. is_member members other ≡ true) (λ other. not (other == rank) && (gives members shift rank other || gives members shift other rank))
+    (are_paired members shift rank) (λ other other_in. paired_is members shift rank other is_in other_in) members
+    (all_members (λ other. is_member members other ≡ true) members (λ other other_in. other_in))

@@ -88,7 +88,7 @@ fn told(alloc: Global, setup: &Setup, target: &Block, source: &Block) -> Result<
         mirror(&mut shell, target, face);
     }
     what_a_block_tells_is_a_strip_for_it();
-    if let Some(strip) = strip_to(alloc, source, target.id(), setup.roots())? {
+    if let Some(strip) = strip_to(alloc, source, target.id())? {
         fill(&mut shell, target, &strip);
     }
     Ok(shell)
@@ -107,7 +107,7 @@ fn asked(
 {
     let shape = setup.roots();
     assert!(rt; target.id().face(source.id(), shape) == Some(Face::XLow));
-    strip_for(alloc, source, target.id(), shape)
+    strip_for(alloc, source, target.id())
 }
 
 // The block one step later, between the walls of the shell.
@@ -169,7 +169,7 @@ fn step_alone(alloc: Global, setup: &Setup, block: Block) -> Result<Block, Memor
     let mut shell = Shell::blank(alloc, setup.side())?;
     where_nothing_regrids_the_roots_stay();
     let strips: Vec<Strip> = Vec::new(alloc);
-    match step(alloc, &mut shell, block, strips.as_slice(), setup.roots()) {
+    match step(alloc, &mut shell, block, strips.as_slice()) {
         Ok(block) => Ok(block),
         Err(_) => Err(Memory),
     }

@@ -15,11 +15,11 @@ all_stepped-requires c =
     let groups = map (λ group. group.items) c.in_ok-groups.groups.items in
     let ready = c.requires.1 in
     let are =
-    groups_by case.roots local.rank local.heard local.blocks c.roots.result c.tell_all.new.strips.items c.into_vec-strips.result.items c.as_slice.result.now c.as_slice-2.result.now groups
-    c.roots.ensures.value (c.into_vec-strips.ensures ∙ c.moved.ensures.items) c.as_slice.ensures c.as_slice-2.ensures c.in_ok-tell_all.ensures c.in_ok-groups.ensures in (
+    groups_by local.rank local.heard local.blocks c.tell_all.new.strips.items c.into_vec-strips.result.items c.as_slice.result.now c.as_slice-2.result.now groups
+    (c.into_vec-strips.ensures ∙ c.moved.ensures.items) c.as_slice.ensures c.as_slice-2.ensures c.in_ok-tell_all.ensures c.in_ok-groups.ensures in (
       c.requires.0,
       subst (λ (blocks : List LinkedBlock). All (IsPairBetween case c.requires.0) (zip blocks groups)) (sym c.moved-2.ensures.items)
-          (all_between case c.requires.0 (local.heard ++ strips_to case.roots local.rank local.blocks) local.blocks groups are ready.told ready.more),
+          (all_between case c.requires.0 (local.heard ++ strips_to local.rank local.blocks) local.blocks groups are ready.told ready.more),
     )
 
 pub returns : goal.returns
@@ -28,8 +28,8 @@ returns c =
     let local = c.args.local.now in
     let groups = map (λ group. group.items) c.in_ok-groups.groups.items in
     let are =
-    groups_by case.roots local.rank local.heard local.blocks c.roots.result c.tell_all.new.strips.items c.into_vec-strips.result.items c.as_slice.result.now c.as_slice-2.result.now groups
-    c.roots.ensures.value (c.into_vec-strips.ensures ∙ c.moved.ensures.items) c.as_slice.ensures c.as_slice-2.ensures c.in_ok-tell_all.ensures c.in_ok-groups.ensures in
-    let blocks = c.in_ok-local.ensures ∙ ap (λ (bs : List LinkedBlock). map stepped_pair (zip bs groups)) c.moved-2.ensures.items ∙ all_stepped_by case.roots local.rank local.heard local.blocks groups are in
+    groups_by local.rank local.heard local.blocks c.tell_all.new.strips.items c.into_vec-strips.result.items c.as_slice.result.now c.as_slice-2.result.now groups
+    (c.into_vec-strips.ensures ∙ c.moved.ensures.items) c.as_slice.ensures c.as_slice-2.ensures c.in_ok-tell_all.ensures c.in_ok-groups.ensures in
+    let blocks = c.in_ok-local.ensures ∙ ap (λ (bs : List LinkedBlock). map stepped_pair (zip bs groups)) c.moved-2.ensures.items ∙ all_stepped_by local.rank local.heard local.blocks groups are in
     ap (λ (bs : List LinkedBlock). record local { blocks = bs; heard = c.moved.new.self }) blocks
-    ∙ ap (λ (strips : List StripValue). record local { blocks = stepped_all case.roots local.rank local.heard local.blocks; heard = strips }) c.moved.ensures.none
+    ∙ ap (λ (strips : List StripValue). record local { blocks = stepped_all local.rank local.heard local.blocks; heard = strips }) c.moved.ensures.none

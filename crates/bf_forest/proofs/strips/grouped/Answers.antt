@@ -1,20 +1,19 @@
-use Rattle.std.proofs.Common.{◌≡◌, ◌<◌, map, length, sym, ap, subst, ◌∙◌, arith}
+use Rattle.std.proofs.Common.{◌<◌, ◌∙◌, ap, map, subst, sym}
 use Rattle.std.proofs.lemmas.Iterator.Adapters.{YieldsList-from_vec}
 use Rattle.std.proofs.lemmas.Iterator.Consumers.{YieldsList-end}
 use Rattle.std.proofs.lemmas.List.{map-id}
 use Rattle.bf_forest.specs.Ready.{groups_of}
-use Rattle.bf_forest.proofs.GroupSteps.{all_empty, as_many, put_none, pushed_one}
+use Rattle.bf_forest.proofs.GroupSteps.{as_many, none_told, put_none, pushed_one}
 use Rattle.bf_forest.proofs.strips.grouped.Goals as goal
 
 pub loop-strip-init : goal.loop-strip-init
 loop-strip-init c =
-    all_empty (λ group. group.items) c.args.blocks.now c.args.strips.items c.loop.groups.items c.loop.counter c.loop.invariant
-    (let e : c.loop.counter ≡ length c.args.blocks.now = omega (arith, c.loop-test.false, c.loop.auto.counter-end) in e)
+    c.in_ok-groups.ensures ∙ none_told c.args.blocks.now
 
-pub loop-strip-preserved-in-Continue-branch-3 : goal.loop-strip-preserved-in-Continue-branch-3
-loop-strip-preserved-in-Continue-branch-3 c =
+pub loop-strip-preserved-in-Continue-branch-2 : goal.loop-strip-preserved-in-Continue-branch-2
+loop-strip-preserved-in-Continue-branch-2 c =
     pushed_one (λ group. group.items) c.args.blocks.now c.loop-strip.yielded c.loop-strip.groups.items c.loop-strip.invariant c.in-Some.strip c.in-Ok.place
-    c.index_mut.result.now c.push-in-Ok.new.self c.requires c.in-Ok.ensures.0 (λ d. c.in-Ok.ensures.1 d ∙ c.target.ensures) c.index_mut.ensures.value c.in_ok-push-2.ensures.items
+    c.index_mut.result.now c.push.new.self c.requires c.in-Ok.ensures.0 (λ d. c.in-Ok.ensures.1 d ∙ c.target.ensures) c.index_mut.ensures.value c.in_ok-push.ensures.items
 
 pub loop-strip-preserved : goal.loop-strip-preserved
 loop-strip-preserved c =

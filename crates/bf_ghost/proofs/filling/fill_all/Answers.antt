@@ -22,7 +22,7 @@ fill-requires-clause-strip c =
 pub loop-strip-preserved : goal.loop-strip-preserved
 loop-strip-preserved c =
     let b = c.args.block.now in
-    let at = at_hand b c.requires.valid c.cells-model.ensures.model in
+    let at = at_hand b c.cells-model.ensures.model in
     let leaves = map_at b.case b.point in
     let own = leaf_is b.case.roots b.case.side leaves b.id b.cells at.domain at.map at.has in
     let strip = c.strip-item.result in

@@ -9,7 +9,6 @@ use Rattle.bf_id.specs.Id.{box_of, root_id, root_ids}
 use Rattle.bf_id.specs.Shape.{IsShape, root_count}
 use Rattle.bf_id.proofs.Tilings.{Contains-cons_cases, Contains-none}
 use Rattle.bf_case.specs.declared.case.Case.{Case}
-use Rattle.bf_case.specs.Case.{IsValid}
 use Rattle.bf_case.specs.Map.{Leaf, ids_of}
 use Rattle.bf_case.proofs.FaceLemmas.{not_itself}
 use Rattle.bf_case.proofs.ListLemmas.{Contains-map}
@@ -32,9 +31,6 @@ told_nothing shape leaves domain roots one = record {
     apart leaf face (inl same) share =
         not_itself shape face (box_of shape (root_id 0)) domain (lit< tt) (lit≤ tt) (subst (λ i. SharesFace shape face (box_of shape (root_id 0)) (box_of shape i)) same share)
     apart leaf face (inr none) share = Contains-none leaf.0 none
-
-pub step-requires-clause-valid : goal.step-requires-clause-valid
-step-requires-clause-valid c = subst IsValid (sym c.requires.case) (every_setup_runs c.args.setup.now).valid
 
 pub step-requires-clause-strips : goal.step-requires-clause-strips
 step-requires-clause-strips c =

@@ -11,7 +11,7 @@ use Rattle.bf_id.specs.Id.{BlockId}
 use Rattle.bf_id.specs.Shape.{IsShape}
 use Rattle.bf_id.specs.Tiling.{IsBalanced}
 use Rattle.bf_cells.specs.Grid.{Grid}
-use Rattle.bf_cells.specs.Shell.{Walls, with_wall, wall_at, wall_place, face_values}
+use Rattle.bf_cells.specs.Shell.{Walls, wall_at, wall_place, face_values}
 use Rattle.bf_cells.proofs.WallLemmas.{get_or-face_values, side-with_wall}
 use Rattle.bf_case.specs.Beside.{HoldSamples}
 use Rattle.bf_case.specs.Map.{Leaf, IsMap, HasCells, ids_of}
@@ -20,7 +20,7 @@ use Rattle.bf_case.proofs.FaceLemmas.{leaf_is}
 use Rattle.bf_ghost.specs.Filling.{AreStripsFor, HoldEdges, IsStripFor}
 use Rattle.bf_ghost.specs.Strips.{StripValue, with_strip}
 use Rattle.bf_ghost.proofs.FillLemmas.{PartsHold, all_hold, edges_stay, no_parts, one_part_more, part_holds, rest_stays}
-use Rattle.bf_forest.specs.Surrounding.{own_walls, surrounding}
+use Rattle.bf_ghost.specs.Surrounding.{own_walls, surrounding}
 
 -- walls keep their side
 laid_side : (w : Walls) (strips : List StripValue) → (fold with_strip w strips).side ≡ w.side

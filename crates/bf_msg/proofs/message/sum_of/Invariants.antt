@@ -1,5 +1,0 @@
-use Rattle.std.proofs.Common.{◌≡◌, ◌%◌, ◌^◌, take, sum}
-use Rattle.bf_msg.proofs.message.sum_of.Given as goal
-
-abbrev pub invariant-loop-value : goal.invariant-loop-value
-invariant-loop-value l = l.sum ≡ sum (take l.value-index l.values) % 2 ^ 64
