@@ -10,6 +10,7 @@ use std::alloc::Global;
 use std::test::Fail;
 
 mod blocks;
+mod places;
 mod tilings;
 
 // Cells whose values rise by 8 from one to the next.
@@ -43,6 +44,23 @@ fn eighths(alloc: Global, side: u32, shell: &Shell) -> Result<Cells, Memory>
     Ok(after)
 }
 
+// A strip that is read off cells, and laid.
+fn tell(
+    alloc: Global,
+    source: Id,
+    cells: &Cells,
+    target: Id,
+    face: Face,
+    shell: &mut Shell,
+) -> Result<Strip, Memory>
+    requires { shell.old.side ≡ cells.now.side }
+    ensures { shell.new.side ≡ shell.old.side }
+{
+    let strip = strip_across(alloc, source, cells, target, face)?;
+    lay(shell, &strip);
+    Ok(strip)
+}
+
 // A strip that is read off cells, and eighths of what is laid by it.
 fn told(
     alloc: Global,
@@ -53,10 +71,9 @@ fn told(
 ) -> Result<(Strip, Cells), Memory>
     ensures { IfOk result (λ told. told.1.side ≡ cells.now.side) }
 {
-    let strip = strip_across(alloc, source, cells, target, face)?;
     let side = cells.side();
     let mut shell = Shell::blank(alloc, side)?;
-    lay(&mut shell, &strip);
+    let strip = tell(alloc, source, cells, target, face, &mut shell)?;
     let after = eighths(alloc, side, &shell)?;
     Ok((strip, after))
 }

@@ -2,4 +2,4 @@ use Rattle.std.proofs.Common.{◌≡◌}
 use Rattle.bf_ghost.proofs.tests.tilings.jumping.Given as goal
 
 abbrev pub invariant-loop-k : goal.invariant-loop-k
-invariant-loop-k l = l.cells.side ≡ 2
+invariant-loop-k g l = l.cells.side ≡ l.side
