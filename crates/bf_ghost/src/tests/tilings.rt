@@ -9,7 +9,6 @@ use bf_cells::{Cells, Shell};
 use bf_face::Face;
 use bf_id::{Id, Shape};
 use std::alloc::Global;
-use std::cmp::Ordering;
 use std::process::Abort;
 
 // How many roots the domains have along each axis.
@@ -180,11 +179,12 @@ fn tiling(
     Ok(Tiling { shape, leaves })
 }
 
-// How two leaves lie that share a face.
+// How two leaves lie that share a face of the target: their levels, and whether they are parts of one root.
 #[derive(Clone, Copy, Debug, PartialEq, Eq)]
 struct Sharing {
     face: Face,
-    levels: Ordering,
+    target: u32,
+    source: u32,
     one_root: bool,
 }
 
@@ -192,7 +192,8 @@ impl Sharing {
     fn between(target: Id, source: Id, face: Face) -> Sharing {
         Sharing {
             face,
-            levels: source.level().cmp(&target.level()),
+            target: target.level(),
+            source: source.level(),
             one_root: source.root() == target.root(),
         }
     }
@@ -259,17 +260,17 @@ fn expect_samples(
     Ok(())
 }
 
-// Two tilings of each shape, among which leaves lie in all 36 ways: across each of six faces, from one that is coarser, as coarse or
-// finer, in one root or two.
+// Four tilings of each shape, among which leaves lie in all 66 ways: across each of six faces, 4 pairs of levels in one root, where
+// none is 0, and 7 in two, all but 0 and 2.
 fn expect_tilings(rt: &impl Abort, alloc: Global, side: u32) -> Result<(), Memory> {
-    let mut numbers = Numbers { state: 20261201 };
+    let mut numbers = Numbers { state: 8 };
     let mut seen = Vec::new(alloc);
-    for k in 0..10 {
+    for k in 0..20 {
         let [nx, ny, nz] = ROOTS[k % 5];
         let tiling = tiling(rt, alloc, Shape { nx, ny, nz }, side, &mut numbers)?;
         expect_samples(rt, alloc, &tiling, &mut seen)?;
     }
-    assert_eq!(rt; seen.len(), 36);
+    assert_eq!(rt; seen.len(), 66);
     Ok(())
 }
 
