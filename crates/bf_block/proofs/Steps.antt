@@ -41,7 +41,7 @@ kept_leaf c time i g runs found stays = by (regrids c time) stays
     by false among = found
 
 -- where its time regrids, the model has afterwards what the regrid makes
-regrids_to : (c : Case) (time : ℕ) (i : BlockId) (g : Grid) → IsTrue (regrids c time) → cells_at (regrid c (model c time)) i ≡ Some g → cells_at (model_at c time true) i ≡ Some g
+pub regrids_to : (c : Case) (time : ℕ) (i : BlockId) (g : Grid) → IsTrue (regrids c time) → cells_at (regrid c (model c time)) i ≡ Some g → cells_at (model_at c time true) i ≡ Some g
 regrids_to c time i g does found = ap (λ leaves. cells_at leaves i) (cond-true (regrids c time) (regrid c (model c time)) (model c time) does) ∙ found
 
 -- a refined leaf gives way to its children

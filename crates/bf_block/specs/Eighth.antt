@@ -50,6 +50,12 @@ pub record AreOctet (c : Case) (time : ℕ) (parent : BlockId) (parts : List Eig
   pub cases : All (λ (e : EighthValue). e.case ≡ c) parts
   pub points : All (λ (e : EighthValue). e.point ≡ before_regrid time) parts
 
--- the block into which they merge
+-- the eight children of a block as blocks, by rising octant, before the regrid of one time
+pub record AreSiblings (c : Case) (time : ℕ) (parent : BlockId) (blocks : List BlockValue) : Type 0 where
+  pub ids : map (λ (b : BlockValue). b.id) blocks ≡ children_of parent
+  pub cases : All (λ (b : BlockValue). b.case ≡ c) blocks
+  pub points : All (λ (b : BlockValue). b.point ≡ before_regrid time) blocks
+
+-- the block into which eight eighths merge
 abbrev pub merged_block : Case → ℕ → BlockId → List EighthValue → BlockValue
 merged_block c time parent parts = record { case = c; point = after_regrid time; id = parent; cells = octants_joined c.side (means_in parts) }
