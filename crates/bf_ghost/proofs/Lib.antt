@@ -3,3 +3,4 @@ pub mod StripLemmas
 pub mod FillLemmas
 pub mod SurroundingLemmas
 pub mod TellingLemmas
+pub mod AllLeaves

@@ -3,7 +3,7 @@ use Rattle.std.proofs.Common.{◌≡◌, ◌==◌, ℕ, List, [], ◌∷◌, Con
 use Rattle.std.specs.List.{cons_option, filter_map}
 use Rattle.std.specs.Prelude.{option_map}
 use Rattle.std.proofs.lemmas.Bool.{both_ways, cases_Bool, eq-eqb}
-use Rattle.std.proofs.lemmas.List.Elements.{All-head, All-tail}
+use Rattle.std.proofs.lemmas.List.Elements.{All-contains, All-head, All-tail}
 use Rattle.bf_lemmas.proofs.Lists.{All-from_Contains}
 use Rattle.bf_face.specs.declared.face.Face.{Face}
 use Rattle.bf_id.specs.declared.shape.Shape.{Shape}
@@ -15,13 +15,18 @@ use Rattle.bf_id.proofs.Boxes.{id_eq_is_equal, Touch_sym}
 use Rattle.bf_id.proofs.Tilings.{Contains-cons_cases, Contains-head, Contains-none, Contains-tail, Contains-flat_map, Contains-flat_map_cases}
 use Rattle.bf_cells.specs.Grid.{Grid}
 use Rattle.bf_case.specs.Halves.{ShareFace}
-use Rattle.bf_case.specs.Map.{Leaf, IsMap, ids_of}
+use Rattle.bf_case.specs.declared.case.Case.{Case}
+use Rattle.bf_case.specs.Map.{Leaf, IsMap, cells_at, ids_of}
 use Rattle.bf_case.proofs.FaceLemmas.{shares_touch}
 use Rattle.bf_case.proofs.ListLemmas.{Contains-map, Contains-map_cases}
+use Rattle.bf_case.proofs.LookupLemmas.{cells_at-leaf, leaf_from_cells_at}
+use Rattle.bf_case.proofs.ModelLemmas.{balanced-model_at}
 use Rattle.bf_case.proofs.TestLemmas.{touches_decides, Contains-filter, Contains-filter_cases}
+use Rattle.bf_block.specs.declared.point.Point.{Point}
+use Rattle.bf_block.specs.Block.{BlockValue, IsModels, leaf_of, map_at}
 use Rattle.bf_ghost.specs.Filling.{AreStripsFor, IsStripFor}
 use Rattle.bf_ghost.specs.Strips.{StripValue, strip_of}
-use Rattle.bf_ghost.specs.Telling.{heard_by, linked_strips, strip_between, strips_among, strips_for, strips_from, told_strips}
+use Rattle.bf_ghost.specs.Telling.{AreAllLeaves, heard_by, linked_strips, strip_between, strips_among, strips_by, strips_for, strips_from, told_strips}
 use Rattle.bf_ghost.proofs.SharingLemmas.{found_is_shared, none_is_found, shared_is_found}
 
 -- ---- lists of what is there
@@ -113,6 +118,54 @@ strips_of_links shape side leaves cells near i g domain is own told linked = rec
         ap (λ (h : Grid). strip_between shape (j, h) i) (told leaf has)
         ∙ between_shared shape leaf i face domain share in
         Contains-filter_map (λ j. strip_between shape (j, cells j) i) near j (strip_of leaf face i) in_near given
+
+-- ---- by all blocks
+
+-- the leaf that a block of some case and point is
+pub found_leaf : (c : Case) (p : Point) (b : BlockValue) → b.case ≡ c → b.point ≡ p → cells_at (map_at b.case b.point) b.id ≡ Some b.cells → cells_at (map_at c p) b.id ≡ Some b.cells
+found_leaf c p b case point found =
+    sym (ap (λ (x : Case). cells_at (map_at x b.point) b.id) case ∙ ap (λ (q : Point). cells_at (map_at c q) b.id) point) ∙ found
+
+pub strips_of_all : (c : Case) (p : Point) (blocks : List BlockValue) (i : BlockId) → AreAllLeaves c p blocks
+    → AreStripsFor c.roots (map_at c p) i (strips_by blocks i)
+strips_of_all c p blocks i all = record {
+  fit = All-from_Contains (IsStripFor c.roots leaves i) (strips_by blocks i) one;
+  whole = each;
+}
+  where
+    leaves : List Leaf
+    leaves = map_at c p
+
+    tell : BlockValue → Option StripValue
+    tell b = strip_between b.case.roots (leaf_of b) i
+
+    tells : (b : BlockValue) → Contains blocks b → tell b ≡ strip_between c.roots (leaf_of b) i
+    tells b has = ap (λ (x : Case). strip_between x.roots (leaf_of b) i) (All-contains (λ (b : BlockValue). b.case ≡ c) blocks b all.cases has)
+
+    found : (b : BlockValue) → Contains blocks b → cells_at leaves b.id ≡ Some b.cells
+    found b has =
+        found_leaf c p b (All-contains (λ (b : BlockValue). b.case ≡ c) blocks b all.cases has)
+        (All-contains (λ (b : BlockValue). b.point ≡ p) blocks b all.points has) (All-contains IsModels blocks b all.models has).leaf
+
+    one : (strip : StripValue) → Contains (strips_by blocks i) strip → IsStripFor c.roots leaves i strip
+    one strip has =
+        let from = Contains-filter_map_cases tell blocks strip has in
+        let b : BlockValue = from.0 in
+        let between = between_is c.roots (leaf_of b) i strip (sym (tells b from.1) ∙ from.2) in
+        record { leaf = leaf_of b; in_map = leaf_from_cells_at leaves b.id b.cells (found b from.1); share = between.share; told = between.told }
+
+    each : (leaf : Leaf) (face : Face) → Contains leaves leaf → SharesFace c.roots face (box_of c.roots i) (box_of c.roots leaf.0)
+        → Contains (strips_by blocks i) (strip_of leaf face i)
+    each leaf face has share =
+        let from = Contains-map_cases (λ (b : BlockValue). b.id) blocks leaf.0 (all.whole leaf.0 (Contains-map (λ (l : Leaf). l.0) leaves leaf has)) in
+        let b : BlockValue = from.0 in
+        let own : cells_at leaves leaf.0 ≡ Some leaf.1 =
+        cells_at-leaf leaves leaf.0 leaf.1 (balanced-model_at c p.time p.regridded all.runs.valid).map.rising has in
+        let its : Some b.cells ≡ Some leaf.1 = sym (found b from.1) ∙ ap (cells_at leaves) (sym from.2) ∙ own in
+        let cells : b.cells ≡ leaf.1 = cc in
+        let same : strip_between c.roots (leaf_of b) i ≡ strip_between c.roots leaf i =
+        ap (λ (k : BlockId). strip_between c.roots (k, b.cells) i) (sym from.2) ∙ ap (λ (h : Grid). strip_between c.roots (leaf.0, h) i) cells in
+        Contains-filter_map tell blocks b (strip_of leaf face i) from.1 (tells b from.1 ∙ same ∙ between_shared c.roots leaf i face all.runs.valid.sized.shape share)
 
 -- ---- by ranks
 

@@ -1,11 +1,15 @@
 -- Which strips are told: by the leaves that a block is linked with, and by one rank to another.
-use Rattle.std.specs.Prelude.{ℕ, ◌==◌, List, Option, filter, flat_map, option_map}
+use Rattle.std.specs.Prelude.{◌≡◌, ℕ, ◌==◌, All, Contains, List, Option, filter, flat_map, map, option_map}
 use Rattle.std.specs.List.{filter_map}
 use Rattle.bf_id.specs.declared.shape.Shape.{Shape}
 use Rattle.bf_id.specs.Id.{BlockId, box_of, id_eq}
 use Rattle.bf_id.specs.Sharing.{shared_face}
 use Rattle.bf_cells.specs.Grid.{Grid}
+use Rattle.bf_case.specs.declared.case.Case.{Case}
 use Rattle.bf_case.specs.Map.{Leaf, ids_of}
+use Rattle.bf_block.specs.declared.point.Point.{Point}
+use Rattle.bf_block.specs.Block.{leaf_of, map_at, BlockValue, IsModels}
+use Rattle.bf_block.specs.Runs.{CanRun}
 use Rattle.bf_ghost.specs.Strips.{strip_of, StripValue}
 
 -- the strip that a leaf tells to a block, if the two share a face
@@ -39,3 +43,15 @@ strips_for i strips = filter (λ (s : StripValue). id_eq s.target i) strips
 -- what some ranks tell a rank for one of its blocks
 abbrev pub heard_by : Shape → List Leaf → (owner : BlockId → ℕ) → (ranks : List ℕ) → (rank : ℕ) → BlockId → List StripValue
 heard_by shape leaves owner ranks rank i = flat_map (λ from. strips_for i (told_strips shape leaves owner from rank)) ranks
+
+-- the strips that a block is told by those of some blocks that share a face with it, in their order
+abbrev pub strips_by : List BlockValue → BlockId → List StripValue
+strips_by blocks i = filter_map (λ (b : BlockValue). strip_between b.case.roots (leaf_of b) i) blocks
+
+-- blocks of one case and point, among which is each leaf of the model there
+pub record AreAllLeaves (c : Case) (p : Point) (blocks : List BlockValue) : Type 0 where
+  pub runs : CanRun c
+  pub models : All IsModels blocks
+  pub cases : All (λ (b : BlockValue). b.case ≡ c) blocks
+  pub points : All (λ (b : BlockValue). b.point ≡ p) blocks
+  pub whole : (i : BlockId) → Contains (ids_of (map_at c p)) i → Contains (map (λ (b : BlockValue). b.id) blocks) i

@@ -8,13 +8,15 @@ ghost use Rattle.bf_id.specs.Shape.{IsShape};
 ghost use Rattle.bf_id.specs.Sharing.{shared_face};
 ghost use Rattle.bf_id.specs.Tiling.{IsBalanced};
 ghost use Rattle.bf_cells.specs.Grid.{Grid};
+ghost use Rattle.bf_case.specs.declared.case.Case.{Case};
 ghost use Rattle.bf_case.specs.Beside.{HoldSamples};
 ghost use Rattle.bf_case.specs.Map.{ids_of, IsMap, Leaf};
+ghost use Rattle.bf_block.specs.declared.point.Point.{Point};
 ghost use Rattle.bf_block.specs.Block.{leaf_of, map_at, BlockValue, IsModels};
 ghost use Rattle.bf_ghost.specs.Filling.{AreStripsFor, IsStripFor};
 ghost use Rattle.bf_ghost.specs.Strips.{StripValue};
 ghost use Rattle.bf_ghost.specs.Surrounding.{surrounding};
-ghost use Rattle.bf_ghost.specs.Telling.{heard_by, linked_strips, strip_between, strips_among, told_strips};
+ghost use Rattle.bf_ghost.specs.Telling.{heard_by, linked_strips, strip_between, strips_among, strips_by, told_strips, AreAllLeaves};
 
 /// The face that is found of two blocks is the one that they share.
 pub fn a_shared_face_is_found()
@@ -37,6 +39,13 @@ pub fn strips_of_links_are_all()
         → ((leaf : Leaf) → Contains leaves leaf → cells leaf.0 ≡ leaf.1)
         → near ≡ filter (touches shape i) (ids_of leaves)
         → AreStripsFor shape leaves i (strips_among shape cells near i) }
+{}
+
+/// The strips that a leaf is told by all leaves' blocks are those of all leaves that share a face with it.
+pub fn strips_of_all_leaves_are_all()
+    ensures { (c : Case) (p : Point) (blocks : List BlockValue) (i : BlockId)
+        → AreAllLeaves c p blocks
+        → AreStripsFor c.roots (map_at c p) i (strips_by blocks i) }
 {}
 
 /// Which strips a leaf needs is no matter of their order.

@@ -19,7 +19,7 @@ use std::alloc::Global;
 use std::process::Abort;
 
 // A row of roots of two cells along an edge, with this fill, and one step.
-fn row_of_roots(alloc: Global, count: u32, fill: Fill) -> Result<Case, Memory> {
+pub(super) fn row_of_roots(alloc: Global, count: u32, fill: Fill) -> Result<Case, Memory> {
     Ok(Case {
         roots: Shape {
             nx: count,
@@ -43,7 +43,7 @@ fn row_of_roots(alloc: Global, count: u32, fill: Fill) -> Result<Case, Memory> {
     })
 }
 
-fn opened(rt: &impl Abort, alloc: Global, case: Case) -> Result<(Opening, Setup), Memory>
+pub(super) fn opened(rt: &impl Abort, alloc: Global, case: Case) -> Result<(Opening, Setup), Memory>
     ensures { IfOk result (λ pair. pair.0 ≡ case_of pair.1) }
 {
     assert!(rt; case.valid());
