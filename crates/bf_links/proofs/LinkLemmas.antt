@@ -5,6 +5,7 @@ use Rattle.std.specs.List.{range_with_len}
 use Rattle.std.proofs.Math.Bool.{or-false}
 use Rattle.std.proofs.Math.Seq.{take-length}
 use Rattle.std.proofs.lemmas.Bool.{cond-true, cond-false, false_from_ne_true}
+use Rattle.std.proofs.lemmas.Bool.Decides.{nat_tests}
 use Rattle.std.proofs.lemmas.List.{append-nil, get_or-map, length-map, take_more}
 use Rattle.std.proofs.lemmas.List.Elements.{filter_more, All-contains_itself, Contains-get_or, All-filter, All-map, All-weaker}
 use Rattle.std.proofs.lemmas.List.Folds.{list_any-append}
@@ -154,17 +155,30 @@ pub owners_of-none : range_with_len 0 0 ≡ owners_of []
 unfolding owners_of
 owners_of-none = refl
 
-pub owners_of-more : (links : List Link) (k : ℕ) (link : Link) → k < length links → link ≡ get_or links k link
-    → with_member (owners_of (take k links)) link.owner ≡ owners_of (take (k + 1) links)
-unfolding owners_of with_member
-owners_of-more links k link within is =
-    let before : List Link = take k links in
-    let more : take (k + 1) links ≡ before ++ link ∷ [] = take_more links k link within ∙ ap (λ (l : Link). before ++ l ∷ []) (sym is) in
-    filter_members (λ rank. is_member (filter (is_owner before) (range_with_len 0 32)) rank || rank == link.owner) (is_owner (before ++ link ∷ [])) (range_with_len 0 32)
-    (λ rank is_in. ap (λ b. b || rank == link.owner) (is_member-owners_of before rank (range_within 0 32 rank is_in)) ∙ last rank)
-    ∙ ap (λ (ls : List Link). filter (is_owner ls) (range_with_len 0 32)) (sym more)
-  where
-    last : (rank : ℕ) → (is_owner (take k links) rank || rank == link.owner) ≡ is_owner (take k links ++ link ∷ []) rank
-    last rank =
-        ap (λ b. is_owner (take k links) rank || b) (eqb_swap rank link.owner ∙ sym (or-false (link.owner == rank)))
-        ∙ sym (list_any-append (λ (l : Link). l.owner == rank) (take k links) (link ∷ []))
+-- one link more, whose owner is another rank or none below 32
+module _ (links : List Link) (k : ℕ) (link : Link) (within : k < length links) (is : link ≡ get_or links k link) where
+  one_more : (test : ℕ → Bool) → ((rank : ℕ) → rank < 32 → test rank ≡ (is_owner (take k links) rank || link.owner == rank))
+      → filter test (range_with_len 0 32) ≡ filter (is_owner (take (k + 1) links)) (range_with_len 0 32)
+  one_more test last =
+      let before : List Link = take k links in
+      let more : take (k + 1) links ≡ before ++ link ∷ [] = take_more links k link within ∙ ap (λ (l : Link). before ++ l ∷ []) (sym is) in
+      filter_members test (is_owner (before ++ link ∷ [])) (range_with_len 0 32)
+      (λ rank is_in.
+      last rank (range_within 0 32 rank is_in)
+      ∙ ap (λ b. is_owner before rank || b) (sym (or-false (link.owner == rank)))
+      ∙ sym (list_any-append (λ (l : Link). l.owner == rank) before (link ∷ [])))
+      ∙ ap (λ (ls : List Link). filter (is_owner ls) (range_with_len 0 32)) (sym more)
+
+  pub owners_of-more : with_member (owners_of (take k links)) link.owner ≡ owners_of (take (k + 1) links)
+  unfolding owners_of with_member
+  owners_of-more =
+      one_more (λ rank. is_member (filter (is_owner (take k links)) (range_with_len 0 32)) rank || rank == link.owner)
+      (λ rank below. ap (λ b. b || rank == link.owner) (is_member-owners_of (take k links) rank below) ∙ ap (λ b. is_owner (take k links) rank || b) (eqb_swap rank link.owner))
+
+  pub owners_of-beyond : 32 ≤ link.owner → owners_of (take k links) ≡ owners_of (take (k + 1) links)
+  unfolding owners_of
+  owners_of-beyond beyond =
+      one_more (is_owner (take k links))
+      (λ rank below.
+      let other : (link.owner == rank) ≡ false = grind (arith, nat_tests) in
+      sym (or-false (is_owner (take k links) rank)) ∙ ap (λ b. is_owner (take k links) rank || b) (sym other))

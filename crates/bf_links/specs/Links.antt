@@ -48,6 +48,11 @@ is_owner links rank = list_any (λ (link : Link). link.owner == rank) links
 unfoldable pub owners_of : List Link → List ℕ
 owners_of links = filter (is_owner links) (range_with_len 0 32)
 
+-- links, and the ranks below 32 that own one of their leaves
+pub record AreOwnedLinks (links : List Link) (owners : List ℕ) : Type 0 where
+  pub are : AreLinks links
+  pub told : owners ≡ owners_of links
+
 -- the links, where one leaf has another owner
 abbrev pub with_owner : BlockId → ℕ → List Link → List Link
 with_owner i owner links = map (λ (link : Link). if id_eq link.id i then record link { owner = owner } else link) links

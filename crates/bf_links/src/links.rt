@@ -4,6 +4,7 @@ ghost use Rattle.bf_id.specs.Id.{InShape, root_id, root_ids};
 ghost use Rattle.bf_id.specs.Shape.{IsShape, root_count};
 ghost use Rattle.bf_program.specs.Restores.{heir_of};
 ghost use Rattle.bf_links.specs.Links.{
+  is_owner,
   links_of,
   owner_of,
   owners_of,
@@ -33,18 +34,42 @@ use std::marker::Model;
 pub struct Links {
     // As many as touch a leaf among leaves of one level stay in the value.
     items: SmallVec<Link, 26>,
+    // The ranks that own one of the leaves, so that each peer is told of a block's links without looking at them.
+    owners: Members,
 }
 
 impl Model for Links {
     ghost use Rattle.std.specs.Prelude.{List};
-    ghost use Rattle.bf_links.specs.Links.{AreLinks};
+    ghost use Rattle.bf_links.specs.Links.{AreOwnedLinks};
     ghost use Rattle.bf_links.specs.declared.link.Link.{Link};
 
     ghost Value = { List Link };
 
     ghost view = { λ l. l.items.items };
 
-    ghost invariant = { λ l. AreLinks l.items.items };
+    ghost invariant = { λ l. AreOwnedLinks l.items.items l.owners };
+}
+
+// The ranks below 32 that own one of some leaves.
+fn owners_of(links: &[Link]) -> Members
+    ensures { result ≡ owners_of links.now }
+{
+    let mut owners = Members::all(0);
+    for link in links {
+        if link.owner < 32 {
+            owners = owners.with(link.owner);
+        }
+    }
+    owners
+}
+
+// Links of these leaves.
+fn links_with(items: SmallVec<Link, 26>) -> Links
+    requires { AreLinks items.items }
+    ensures { result ≡ items.items }
+{
+    let owners = owners_of(items.as_slice());
+    Links { items, owners }
 }
 
 impl Links {
@@ -63,7 +88,7 @@ impl Links {
                 items.push(*link)?;
             }
         }
-        Ok(Links { items })
+        Ok(links_with(items))
     }
 
     /// The links of a root where all leaves are roots, by the owners of the roots in their order. They are looked for
@@ -75,7 +100,7 @@ impl Links {
         ensures { IfOk result (λ links. links ≡ links_of shape (root_ids shape) (root_owner owners.now) (root_id root)) }
     {
         let items = links_of_root(alloc, root, owners, shape)?;
-        Ok(Links { items })
+        Ok(links_with(items))
     }
 
     /// These links.
@@ -84,7 +109,7 @@ impl Links {
         ensures { IfOk result (λ made. made ≡ links.now) }
     {
         let items = SmallVec::from_slice(alloc, links)?;
-        Ok(Links { items })
+        Ok(links_with(items))
     }
 
     /// Equal links.
@@ -92,7 +117,10 @@ impl Links {
         ensures { IfOk result (λ made. made ≡ self.now) }
     {
         let items = SmallVec::from_slice(*self.items.allocator(), self.items.as_slice())?;
-        Ok(Links { items })
+        Ok(Links {
+            items,
+            owners: self.owners,
+        })
     }
 
     /// The links in their order.
@@ -136,16 +164,22 @@ impl Links {
         }
     }
 
-    /// The ranks that own one of the leaves.
+    /// The ranks below 32 that own one of the leaves.
     pub fn owners(&self) -> Members
-        requires { All (λ (link : Link). link.owner < 32) self.now }
         ensures { result ≡ owners_of self.now }
     {
-        let mut owners = Members::all(0);
-        for link in self.items.as_slice() {
-            owners = owners.with(link.owner);
+        self.owners
+    }
+
+    /// Whether a rank owns one of the leaves. A rank below 32 is looked for without looking at each leaf.
+    pub fn has_owner(&self, rank: u32) -> bool
+        ensures { result ≡ is_owner self.now rank }
+    {
+        if rank < 32 {
+            self.owners.has(rank)
+        } else {
+            self.items.as_slice().iter().any(|link| link.owner == rank)
         }
-        owners
     }
 
     /// Names another owner of a leaf, if there is a link to it.
@@ -153,7 +187,10 @@ impl Links {
         ensures { self.new ≡ with_owner id owner self.old }
     {
         match self.place(id) {
-            Ok(place) => self.items.as_mut_slice()[place].owner = owner,
+            Ok(place) => {
+                self.items.as_mut_slice()[place].owner = owner;
+                self.owners = owners_of(self.items.as_slice());
+            }
             Err(_) => (),
         }
     }
@@ -164,6 +201,7 @@ impl Links {
         ensures { self.new ≡ map (remapped (heir_of homes live shift)) self.old }
     {
         remap_all(self.items.as_mut_slice(), homes, live, shift);
+        self.owners = owners_of(self.items.as_slice());
     }
 }
 

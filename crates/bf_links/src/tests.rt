@@ -34,12 +34,6 @@ fn are_inside(leaves: &[Link], shape: Shape) -> bool
     leaves.iter().all(|leaf| leaf.id.root() < roots)
 }
 
-fn have_owners_below_32(links: &[Link]) -> bool
-    ensures { IsTrue result ↔ All (λ (link : Link). link.owner < 32) links.now }
-{
-    links.iter().all(|link| link.owner < 32)
-}
-
 fn are_owned_by(links: &[Link], homes: Members) -> bool
     ensures { IsTrue result ↔ All (λ (link : Link). IsTrue (is_member homes link.owner)) links.now }
 {
@@ -248,12 +242,24 @@ fn owners_are_found_and_named(rt: HostRuntime) -> Result<(), Fail> {
     assert_eq!(rt; links.owner(Id::root_of(0).child(7)), Some(0));
     assert_eq!(rt; links.owner(Id::root_of(1)), Some(5));
     assert_eq!(rt; links.owner(Id::root_of(2)), None);
-    assert!(rt; have_owners_below_32(links.as_slice()));
     let owners = links.owners();
     assert_eq!(rt; owners.count(), 3);
     assert_eq!(rt; owners.at(0), Some(0));
     assert_eq!(rt; owners.at(1), Some(3));
     assert_eq!(rt; owners.at(2), Some(5));
+    Ok(())
+}
+
+#[test]
+fn owners_follow_their_links(rt: HostRuntime) -> Result<(), Fail> {
+    let mut links = few_links(&rt, rt.alloc())?;
+    assert!(rt; links.has_owner(1));
+    assert!(rt; !links.has_owner(2));
+    links.set_owner(Id::root_of(1), 32);
+    assert!(rt; !links.has_owner(1));
+    assert!(rt; links.has_owner(32));
+    assert!(rt; !links.has_owner(33));
+    assert_eq!(rt; links.copy()?.owners().count(), 2);
     Ok(())
 }
 
