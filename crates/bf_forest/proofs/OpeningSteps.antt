@@ -1,9 +1,12 @@
 -- The blocks and locals of the opening, as they are made.
-use Rattle.std.proofs.Common.{◌≡◌, ℕ, ◌+◌, ◌<◌, List, [], ◌∷◌, length, map, get_or, refl, sym, ap, ◌∙◌, arith}
-use Rattle.std.specs.Prelude.{IsTrue}
+use Rattle.std.proofs.Common.{◌≡◌, ◌≢◌, ℕ, zero, suc, ◌+◌, ◌<◌, List, [], ◌∷◌, ◌++◌, length, map, filter, replicate, get_or, refl, sym, ap, ◌∙◌, arith, ◌⊎◌, inl, inr}
+use Rattle.std.specs.Prelude.{IsTrue, ◌==◌}
 use Rattle.std.specs.List.{range_with_len, zip}
+use Rattle.std.proofs.Math.ListN.{set}
+use Rattle.std.proofs.lemmas.Bool.{cases_eq, eq-eqb, eqb-true, false_from_ne_true}
+use Rattle.std.proofs.lemmas.List.{ext_get_or, get_or-set_other, get_or-set_same, length-set}
 use Rattle.std.proofs.lemmas.List.FromFn.{length-map-range_with_len, get_or-map-range_with_len}
-use Rattle.bf_lemmas.proofs.Lists.{same_pairs}
+use Rattle.bf_lemmas.proofs.Lists.{map_alike, passed_more, same_pairs, taken_more}
 use Rattle.bf_buddy.specs.Members.{is_member}
 use Rattle.bf_buddy.proofs.MemberLemmas.{range_has, range_within}
 use Rattle.bf_id.specs.declared.shape.Shape.{Shape}
@@ -18,7 +21,7 @@ use Rattle.bf_links.specs.Roots.{root_owner}
 use Rattle.bf_parts.specs.Leaves.{part_of}
 use Rattle.bf_msg.specs.declared.linked_block.LinkedBlock.{LinkedBlock}
 use Rattle.bf_forest.specs.declared.local.ForestLocal.{ForestLocal}
-use Rattle.bf_forest.specs.BlockLaws.{first_linked}
+use Rattle.bf_forest.specs.BlockLaws.{first_linked, first_part}
 use Rattle.bf_forest.specs.Meanings.{opened}
 use Rattle.bf_forest.specs.ModelBlocks.{linked_at, blocks_at, first_home}
 use Rattle.bf_forest.specs.Opening.{first_owners, first_parts, unfilled}
@@ -43,6 +46,56 @@ block_made c shape owners root b links same are valid below made linked =
     (linked
     ∙ ap (λ (s : Shape). links_of s (root_ids s) (root_owner owners) (root_id root)) same
     ∙ ap (λ (os : List ℕ). links_of c.roots (root_ids c.roots) (root_owner os) (root_id root)) are)
+
+-- each of some numbers in a list of its own place, behind those before it
+abbrev pub dealt : {X : Type 0} → (f : ℕ → X) → (place : ℕ → ℕ) → (places numbers : ℕ) → List (List X)
+dealt f place places numbers = map (λ p. map f (filter (λ k. place k == p) (range_with_len 0 numbers))) (range_with_len 0 places)
+
+pub none_dealt : {X : Type 0} (f : ℕ → X) (place : ℕ → ℕ) (places : ℕ) → replicate places [] ≡ dealt f place places 0
+none_dealt {X = X} f place places = from places 0
+  where
+    from : (n first : ℕ) → ◌≡◌ {A = List (List X)} (replicate n []) (map (λ p. []) (range_with_len first n))
+    from zero first = refl
+    from (suc n) first = ap (λ (rest : List (List X)). [] ∷ rest) (from n (first + 1))
+
+-- and one more
+pub one_dealt : {X : Type 0} (f : ℕ → X) (place : ℕ → ℕ) (places k : ℕ) (lists : List (List X)) (old new : List X) → place k < places → lists ≡ dealt f place places k
+    → old ≡ get_or lists (place k) old → new ≡ old ++ f k ∷ [] → set lists (place k) new ≡ dealt f place places (k + 1)
+one_dealt {X = X} f place places k lists old new below are at pushed =
+    ext_get_or [] (set lists (place k) new) (dealt f place places (k + 1)) (length-set lists (place k) new ∙ many ∙ sym (length-map-range_with_len (part (k + 1)) 0 places)) (λ p within.
+    by p (omega (arith, within, length-set lists (place k) new, many)) (cases_eq p (place k)))
+  where
+    part : ℕ → ℕ → List X
+    part n p = map f (filter (λ i. place i == p) (range_with_len 0 n))
+
+    many : length lists ≡ places
+    many = ap length are ∙ length-map-range_with_len (part k) 0 places
+
+    before : (p : ℕ) (d : List X) → p < places → get_or lists p d ≡ part k p
+    before p d within = ap (λ (ls : List (List X)). get_or ls p d) are ∙ get_or-map-range_with_len (part k) 0 places p p d within (omega arith)
+
+    after : (p : ℕ) → p < places → get_or (dealt f place places (k + 1)) p [] ≡ part (k + 1) p
+    after p within = get_or-map-range_with_len (part (k + 1)) 0 places p p [] within (omega arith)
+
+    by : (p : ℕ) → p < places → (p ≡ place k) ⊎ (p ≢ place k) → get_or (set lists (place k) new) p [] ≡ get_or (dealt f place places (k + 1)) p []
+    by p within (inl same) =
+        ap (λ n. get_or (set lists (place k) new) n []) same ∙ get_or-set_same lists (place k) new [] (omega (arith, many, below))
+        ∙ taken_more f (λ i. place i == p) k (f k) old new (at ∙ before (place k) old below ∙ ap (part k) (sym same)) (eq-eqb (place k) p (sym same)) refl pushed
+        ∙ sym (after p within)
+    by p within (inr other) =
+        get_or-set_other lists (place k) p new [] other ∙ before p [] within
+        ∙ passed_more f (λ i. place i == p) k (part k p) (part k p) refl (false_from_ne_true (place k == p) (λ t. other (sym (eqb-true (place k) p t)))) refl
+        ∙ sym (after p within)
+
+-- the first so many roots, each at the rank where it begins
+abbrev pub parts_below : Case → (roots : ℕ) → List (List LinkedBlock)
+parts_below c roots = dealt (λ root. linked_at c 0 (first_home c) (root_id root)) (first_rank_of c) c.ranks roots
+
+pub parts_whole : (c : Case) → parts_below c (root_count c.roots) ≡ first_parts c
+unfolding first_parts
+parts_whole c =
+    map_alike (λ rank. map (λ root. linked_at c 0 (first_home c) (root_id root)) (filter (λ root. first_rank_of c root == rank) (range_with_len 0 (root_count c.roots))))
+    (part_of (blocks_at c 0) (first_home c)) (range_with_len 0 c.ranks) (first_part c)
 
 -- the part that a rank's place has
 pub part_at : (c : Case) (parts : List (List LinkedBlock)) (rank : ℕ) (d : List LinkedBlock) → parts ≡ first_parts c → rank < c.ranks

@@ -78,19 +78,7 @@ sending_ready setup epoch round to local at = by (stage_of forest_plan epoch rou
     by Snapshot stage = tt
     by Over stage = tt
 
--- the owners in a member's links are members, and whom it asks for are its peers
-leaves_owned : (c : Case) (epoch : Epoch) (stage : Stage) (owner : BlockId → ℕ) (rank : ℕ) → AreAmong epoch.members (leaves_in c epoch stage) owner
-    → All (IsOwnedAmong epoch.members) (part_of (leaves_in c epoch stage) owner rank)
-leaves_owned c epoch (Step time) owner rank owned = part_owned c time epoch.members owner rank owned
-leaves_owned c epoch Snapshot owner rank owned = part_owned c epoch.target epoch.members owner rank owned
-leaves_owned c epoch Over owner rank owned = part_owned c epoch.target epoch.members owner rank owned
-
-pub first_owned_by : (setup : Setup) (epoch : Epoch) (round : ℕ) (local : ForestLocal) → IsFirst forest IsGood setup epoch round local → All (IsOwnedAmong epoch.members) local.blocks
-unfolding IsGood stage_of
-first_owned_by setup epoch round local first =
-    let told = first_told forest (telling_of forest forest_staging) setup (keeps setup) (lawful_forest setup).goods epoch round local first in
-    subst (All (IsOwnedAmong epoch.members)) (sym (ap (λ (l : ForestLocal). l.blocks) told.is)) (leaves_owned (case_of setup) epoch (stage_of forest_plan epoch round) told.world.owner told.rank told.fits.owned)
-
+-- whom a member asks for are its peers
 peers_at : (c : Case) (epoch : Epoch) (local : ForestLocal) (stage : Stage) → is_member epoch.members local.rank ≡ true
     → filter (is_peer stage epoch.members c.shift local) epoch.members ≡ (play_of c epoch stage).peers epoch.members local
 unfolding is_peer

@@ -1,12 +1,14 @@
 -- Strips as they are told, and as they are put to the blocks that they are for.
-use Rattle.std.proofs.Common.{◌≡◌, ℕ, ◌+◌, ◌<◌, Bool, true, false, cond, List, [], ◌∷◌, ◌++◌, length, map, take, get_or, Option, Some, None, filter, sym, ap, ◌∙◌}
-use Rattle.std.specs.Prelude.{◌==◌}
-use Rattle.std.specs.List.{filter_map, flat_map}
+use Rattle.std.proofs.Common.{◌≡◌, ℕ, ◌+◌, ◌<◌, Bool, true, false, cond, List, [], ◌∷◌, ◌++◌, length, map, take, get_or, Option, Some, None, filter, refl, sym, ap, ◌∙◌}
+use Rattle.std.specs.Prelude.{◌==◌, ◌||◌}
+use Rattle.std.specs.List.{filter_map, flat_map, list_any}
 use Rattle.std.proofs.lemmas.List.{append-nil, append_assoc, map-append, take_more}
 use Rattle.std.proofs.lemmas.List.Elements.{filter-append, filter_map-append}
 use Rattle.std.proofs.lemmas.Grind.{flat_map-append}
 use Rattle.bf_id.specs.declared.shape.Shape.{Shape}
 use Rattle.bf_case.specs.Map.{Leaf}
+use Rattle.bf_block.specs.Block.{leaf_of}
+use Rattle.bf_links.specs.Links.{is_owner}
 use Rattle.bf_links.specs.declared.link.Link.{Link}
 use Rattle.bf_ghost.specs.Strips.{StripValue}
 use Rattle.bf_ghost.specs.Telling.{strip_between, strips_from}
@@ -53,6 +55,20 @@ module _ (shape : Shape) (to : ℕ) (leaf : Leaf) (links : List Link) (k : ℕ) 
       ∙ ap (λ l. before ++ l) (sym (last_told shape to leaf links k link within is
       ∙ ap (λ (b : Bool). told_by shape to leaf (take k links) ++ strips_from shape leaf (map (λ (l : Link). l.id) (cond b (link ∷ []) []))) its
       ∙ ap (λ (o : Option StripValue). told_by shape to leaf (take k links) ++ filter_map (λ (p : Option StripValue). p) (o ∷ [])) some))
+
+-- where none passes a test, none is kept
+none_kept : {X : Type 0} (test : X → Bool) (xs : List X) → list_any test xs ≡ false → filter test xs ≡ []
+none_kept test [] none = refl
+none_kept {X = X} test (x ∷ xs) none = at (test x) (none_kept test xs) none
+  where
+    at : (b : Bool) → (list_any test xs ≡ false → filter test xs ≡ []) → (b || list_any test xs) ≡ false → cond b (x ∷ filter test xs) (filter test xs) ≡ []
+    at true later none = absurd (cc)
+    at false later none = later none
+
+-- a block that is linked with none of a rank tells it nothing
+pub untold : (to : ℕ) (b : LinkedBlock) (before : List StripValue) → is_owner b.links to ≡ false → before ≡ before ++ strips_of to b
+untold to b before none =
+    sym (ap (λ (links : List Link). before ++ strips_from b.block.case.roots (leaf_of b.block) (map (λ (link : Link). link.id) links)) (none_kept (λ (link : Link). link.owner == to) b.links none) ∙ append-nil before)
 
 -- one block more that tells the blocks of a rank
 pub block_told : (to : ℕ) (blocks : List LinkedBlock) (k : ℕ) (linked : LinkedBlock) (before strips next : List StripValue) → k < length blocks → linked ≡ get_or blocks k linked

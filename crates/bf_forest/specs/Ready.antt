@@ -19,10 +19,6 @@ use Rattle.bf_forest.specs.Rounds.{strips_to}
 abbrev pub AreLinkedInside : LinkedBlock → Type 0
 AreLinkedInside b = All (λ (link : Link). InShape b.block.case.roots link.id) b.links
 
--- each owner in the links is below 32, as ranks are
-abbrev pub AreOwnedBelow : List LinkedBlock → Type 0
-AreOwnedBelow blocks = All (λ (b : LinkedBlock). All (λ (link : Link). link.owner < 32) b.links) blocks
-
 -- so all of a rank's blocks
 abbrev pub CanTell : ForestLocal → Type 0
 CanTell local = All AreLinkedInside local.blocks

@@ -1,5 +1,5 @@
 //! The ranks' locals at the opening.
-ghost use Rattle.std.specs.Prelude.{◌≡◌, ◌<◌, map, IfOk};
+ghost use Rattle.std.specs.Prelude.{◌≡◌, ◌<◌, [], ◌∷◌, ◌++◌, map, replicate, IfOk, OnOk};
 ghost use Rattle.std.specs.List.{range_with_len};
 ghost use Rattle.bf_id.specs.Id.{root_id};
 ghost use Rattle.bf_id.specs.Shape.{root_count};
@@ -48,28 +48,28 @@ fn first_block(
     Ok(LinkedBlock { block, links })
 }
 
-// The roots that begin at a rank.
-fn first_part(
-    alloc: Global,
-    opening: &Opening,
-    setup: &Setup,
-    owners: &[u32],
-    rank: u32,
-) -> Result<Items<LinkedBlock>, Memory>
-    requires opening { opening.now ≡ case_of setup.now }
-    requires owners { owners.now ≡ first_owners (case_of setup.now) }
-    ensures { IfOk result (λ blocks. blocks ≡ part_of (blocks_at (case_of setup.now) 0) (first_home (case_of setup.now)) rank) }
+// Puts a block behind others.
+fn add(blocks: &mut Items<LinkedBlock>, block: LinkedBlock) -> Result<(), Memory>
+    ensures { OnOk result (blocks.new ≡ blocks.old ++ block ∷ []) }
 {
-    let mut blocks = Vec::new(alloc);
-    for root in 0..setup.root_count() {
-        if setup.root_rank(root) == rank {
-            blocks.push(first_block(alloc, opening, setup, owners, root)?)?;
-        }
-    }
-    Ok(Items::of(blocks))
+    let mut all = blocks.moved().into_vec();
+    all.push(block)?;
+    *blocks = Items::of(all);
+    Ok(())
 }
 
-// The roots that begin at each rank.
+// No roots yet at each rank.
+fn no_parts(alloc: Global, setup: &Setup) -> Result<Vec<Items<LinkedBlock>>, Memory>
+    ensures { IfOk result (λ parts. parts.items ≡ replicate (case_of setup.now).ranks []) }
+{
+    let mut parts = Vec::new(alloc);
+    for _ in 0..setup.ranks() {
+        parts.push(Items::new(alloc))?;
+    }
+    Ok(parts)
+}
+
+// The roots that begin at each rank: each root is put to those of its rank.
 fn first_parts(
     alloc: Global,
     opening: &Opening,
@@ -79,9 +79,10 @@ fn first_parts(
     ensures { IfOk result (λ parts. parts.items ≡ first_parts (case_of setup.now)) }
 {
     let owners = first_owners(alloc, setup)?;
-    let mut parts = Vec::new(alloc);
-    for rank in 0..setup.ranks() {
-        parts.push(first_part(alloc, opening, setup, owners.as_slice(), rank)?)?;
+    let mut parts = no_parts(alloc, setup)?;
+    for root in 0..setup.root_count() {
+        let block = first_block(alloc, opening, setup, owners.as_slice(), root)?;
+        add(&mut parts[setup.root_rank(root) as usize], block)?;
     }
     Ok(parts)
 }

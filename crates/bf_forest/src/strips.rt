@@ -19,6 +19,9 @@ fn tell(
     requires { AreLinkedInside linked.now }
     ensures { OnOk result (strips.new.items ≡ strips.old.items ++ strips_of to linked.now) }
 {
+    if !linked.links.has_owner(to) {
+        return Ok(());
+    }
     for link in linked.links.as_slice() {
         if link.owner == to {
             if let Some(strip) = strip_to(alloc, &linked.block, link.id)? {

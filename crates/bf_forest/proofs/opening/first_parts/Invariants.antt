@@ -1,9 +1,7 @@
-use Rattle.std.proofs.Common.{◌≡◌, map}
-use Rattle.std.specs.List.{range_with_len}
-use Rattle.bf_parts.specs.Leaves.{part_of}
-use Rattle.bf_forest.specs.ModelBlocks.{blocks_at, first_home}
+use Rattle.std.proofs.Common.{◌≡◌}
 use Rattle.bf_forest.specs.Setup.{case_of}
+use Rattle.bf_forest.proofs.OpeningSteps.{parts_below}
 use Rattle.bf_forest.proofs.opening.first_parts.Given as goal
 
-abbrev pub invariant-loop-rank : goal.invariant-loop-rank
-invariant-loop-rank l = l.parts.items ≡ map (part_of (blocks_at (case_of l.setup) 0) (first_home (case_of l.setup))) (range_with_len 0 l.rank)
+abbrev pub invariant-loop-root : goal.invariant-loop-root
+invariant-loop-root l = l.parts.items ≡ parts_below (case_of l.setup) l.root

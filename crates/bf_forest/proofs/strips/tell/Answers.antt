@@ -2,7 +2,7 @@ use Rattle.std.proofs.Common.{sym, ap, ◌∙◌}
 use Rattle.std.specs.Prelude.{◌==◌}
 use Rattle.std.proofs.lemmas.Bool.{eq-eqb, eqb-true, false_from_ne_true}
 use Rattle.bf_block.specs.Block.{leaf_of}
-use Rattle.bf_forest.proofs.StripSteps.{strip_told, nothing_told, passed_by}
+use Rattle.bf_forest.proofs.StripSteps.{strip_told, nothing_told, passed_by, untold}
 use Rattle.bf_forest.proofs.strips.tell.Goals.{then-link-to+in_ok-strip+in-Some+in_ok-push, then-link-to+in_ok-strip+in_default, else-link-to}
 use Rattle.bf_forest.proofs.strips.tell.Goals as goal
 
@@ -22,3 +22,7 @@ loop-link-preserved c =
           c.args.strips.now.items c.loop-link.strips.items c.if-link-to.strips.items c.loop-link.invariant
           (false_from_ne_true (c.link-item.result.owner == c.args.to) (λ t. w.if-link-to.false (eqb-true c.link-item.result.owner c.args.to t))) (ap (λ v. v.items) w.strips-is)
     ]
+
+pub returns-then-not-has_owner : goal.returns-then-not-has_owner
+returns-then-not-has_owner c =
+    untold c.args.to c.args.linked.now c.args.strips.now.items (sym c.has_owner.ensures ∙ c.if-not-has_owner.true)

@@ -3,11 +3,8 @@ use Rattle.bf_stages.specs.Plans.{stage_of}
 use Rattle.bf_forest.specs.Peers.{is_peer}
 use Rattle.bf_forest.specs.Stages.{forest_plan}
 use Rattle.bf_forest.specs.declared.stage.Stage.{Stage}
-use Rattle.bf_forest.proofs.PointSteps.{first_owned_by, peers_are}
+use Rattle.bf_forest.proofs.PointSteps.{peers_are}
 use Rattle.bf_forest.proofs.program.ForestRankProgram.peers.Goals as goal
-
-pub peers_of-requires : goal.peers_of-requires
-peers_of-requires c = first_owned_by c.args.setup.now c.args.epoch c.args.round c.args.local.now c.requires
 
 pub returns : goal.returns
 returns c =
