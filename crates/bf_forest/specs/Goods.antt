@@ -1,7 +1,11 @@
 -- Good vectors of the ranks' locals.
-use Rattle.std.specs.Prelude.{◌≡◌, ◌↔◌, ℕ, nat_lt, ◌==◌, false, List, [], map, All, AllPairs, Contains, if◌then◌else◌}
+use Rattle.std.specs.Prelude.{◌≡◌, ◌≢◌, ◌↔◌, ◌⊎◌, ℕ, nat_lt, ◌==◌, false, List, [], map, All, AllPairs, Contains, if◌then◌else◌}
+use Rattle.bf_buddy.specs.Buddy.{buddy_of}
 use Rattle.bf_program.specs.declared.epoch.Epoch.{Epoch}
+use Rattle.bf_id.specs.declared.shape.Shape.{Shape}
+use Rattle.bf_id.specs.Cube.{Apart, Cube, Holds, Voxel}
 use Rattle.bf_id.specs.Id.{BlockId, Touch}
+use Rattle.bf_id.specs.Shape.{InDomain}
 use Rattle.bf_id.specs.Walk.{IsBefore}
 use Rattle.bf_case.specs.declared.case.Case.{Case}
 use Rattle.bf_case.specs.Map.{ids_of}
@@ -69,3 +73,23 @@ pub record AreNeighbors (c : Case) (time : ℕ) (owner : BlockId → ℕ) (rank 
   pub owned : owner own ≡ rank
   pub other_owned : owner theirs ≡ other
   pub touch : Touch c.roots own theirs
+
+-- boxes tile the domain: each unit of it lies in one of them, no unit lies in two, and none of them has a unit outside
+pub record TileDomain (shape : Shape) (boxes : List Cube) : Type 0 where
+  pub covered : (v : Voxel) → InDomain shape v → (box : Cube) × Contains boxes box × Holds box v
+  pub apart : AllPairs Apart boxes
+  pub inside : (box : Cube) (v : Voxel) → Contains boxes box → Holds box v → InDomain shape v
+
+-- two members are partners: one of them is the buddy of the other
+pub record ArePartners (members : List ℕ) (shift rank other : ℕ) : Type 0 where
+  pub apart : rank ≢ other
+  pub buddy : (buddy_of members rank shift ≡ other) ⊎ (buddy_of members other shift ≡ rank)
+
+-- what a member, among all, has of the new snapshot: its own blocks, and copies of those of the member whose buddy it is; one that is its own buddy has no copies
+pub record HasCopies (shift : ℕ) (epoch : Epoch) (locals : List ForestLocal) (local : ForestLocal) : Type 0 where
+  pub time : local.spare.time ≡ epoch.target
+  pub homes : local.spare.homes ≡ epoch.members
+  pub own : local.spare.own ≡ local.blocks
+  pub source : buddy_of epoch.members local.spare.source shift ≡ local.rank
+  pub copied : (from : ForestLocal) → Contains locals from → from.rank ≡ local.spare.source → from.rank ≢ local.rank → local.spare.other ≡ from.blocks
+  pub alone : local.spare.source ≡ local.rank → local.spare.other ≡ []

@@ -43,7 +43,7 @@ use Rattle.bf_forest.specs.Stages.{forest_plan, time_at}
 use Rattle.bf_forest.specs.Staging.{leaves_in, Runs, forest_staging}
 
 -- the leaves at the beginning of a round
-leaves_now : (c : Case) (epoch : Epoch) (round : ℕ) → epoch.time + span epoch ≡ epoch.target → leaves_in c epoch (stage_of forest_plan epoch round) ≡ blocks_at c (time_at epoch round)
+pub leaves_now : (c : Case) (epoch : Epoch) (round : ℕ) → epoch.time + span epoch ≡ epoch.target → leaves_in c epoch (stage_of forest_plan epoch round) ≡ blocks_at c (time_at epoch round)
 leaves_now c epoch round whole = elim (cases_lt round (span epoch)) [
   | inl before ↦ ap (leaves_in c epoch) (stage_step epoch round before) ∙ ap (blocks_at c) (sym (time_step epoch round before))
   | inr after ↦ elim (cases_order round (span epoch)) [
@@ -81,7 +81,7 @@ told_is setup epoch round world runs rank =
     at false = refl
 
 -- so is each good vector
-locals_are : (setup : Setup) (epoch : Epoch) (round : ℕ) (world : ForestWorld) (ranks : List ℕ) → Runs (case_of setup) epoch
+pub locals_are : (setup : Setup) (epoch : Epoch) (round : ℕ) (world : ForestWorld) (ranks : List ℕ) → Runs (case_of setup) epoch
     → map (local_told forest forest_staging setup epoch round world) ranks ≡ map (local_at (case_of setup) epoch round world.owner world.home) ranks
 locals_are setup epoch round world ranks runs = ap (λ (f : ℕ → ForestLocal). map f ranks) (λ i rank. told_is setup epoch round world runs rank i)
 
@@ -91,7 +91,7 @@ owned_now setup epoch round world placed =
     subst (λ (ls : Leaves BlockId LinkedBlock). AreAmong epoch.members ls world.owner) (leaves_now (case_of setup) epoch round (whole_span setup epoch placed.runs)) placed.owned
 
 -- so the blocks are dealt
-dealt : (setup : Setup) (epoch : Epoch) (round : ℕ) (world : ForestWorld) (locals : List ForestLocal) → Placed setup epoch round world
+pub dealt : (setup : Setup) (epoch : Epoch) (round : ℕ) (world : ForestWorld) (locals : List ForestLocal) → Placed setup epoch round world
     → locals ≡ map (local_told forest forest_staging setup epoch round world) epoch.members → AreDealt (case_of setup) epoch round world.owner world.home locals
 dealt setup epoch round world locals placed are = record {
   rising = λ time. (model_map (case_of setup) time (every_setup_keeps_roots setup)).rising;

@@ -23,3 +23,6 @@ pub mod RoundLaws
 pub mod ForestLaws
 pub mod LeafLaws
 pub mod VectorLaws
+pub mod DealtLaws
+pub mod PieceLaws
+pub mod SnapshotLaws

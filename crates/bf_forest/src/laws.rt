@@ -1,6 +1,7 @@
 //! What holds of all ranks together, each law the contract of a call that does nothing.
-ghost use Rattle.std.specs.Prelude.{◌≡◌, ◌↔◌, ℕ, ◌+◌, ◌-◌, ◌<◌, ◌≤◌, Bool, IsTrue, List, None, All, Contains, filter, map};
+ghost use Rattle.std.specs.Prelude.{◌≡◌, ◌≢◌, ◌↔◌, ℕ, ◌+◌, ◌-◌, ◌<◌, ◌≤◌, Bool, IsTrue, List, Some, None, All, Contains, filter, map};
 ghost use Rattle.std.specs.List.{flat_map};
+ghost use Rattle.bf_buddy.specs.Buddy.{buddy_of};
 ghost use Rattle.bf_buddy.specs.Members.{is_member};
 ghost use Rattle.bf_buddy.specs.Losses.{first_lost_of};
 ghost use Rattle.bf_program.specs.declared.epoch.Epoch.{Epoch};
@@ -17,13 +18,13 @@ ghost use Rattle.bf_forest.specs.declared.setup.Setup.{Setup};
 ghost use Rattle.bf_forest.specs.Setup.{case_of};
 ghost use Rattle.bf_forest.specs.declared.local.ForestLocal.{ForestLocal};
 ghost use Rattle.bf_msg.specs.declared.message.Message.{Message};
-ghost use Rattle.bf_forest.specs.Goods.{IsGood, AreDealt, AreNeighbors, HasLinked};
+ghost use Rattle.bf_forest.specs.Goods.{IsGood, AreDealt, AreNeighbors, ArePartners, HasCopies, HasLinked, TileDomain};
 ghost use Rattle.bf_forest.specs.Leaves.{AreLeaves, bare_blocks};
 ghost use Rattle.bf_forest.specs.Meanings.{forest, pieces};
 ghost use Rattle.bf_ghost.specs.Telling.{told_strips};
 ghost use Rattle.bf_stages.specs.Plans.{rounds_of, span};
 ghost use Rattle.bf_forest.specs.Stages.{forest_plan, time_at};
-ghost use Rattle.bf_forest.specs.Staging.{forest_staging};
+ghost use Rattle.bf_forest.specs.Staging.{Runs, forest_staging};
 
 use crate::Forest;
 use bf_program::laws::the_lockstep_stays_good;
@@ -60,12 +61,19 @@ pub fn the_blocks_are_the_models_leaves()
         → AreLeaves (model (case_of setup) (time_at epoch round)) (flat_map (λ (local : ForestLocal). bare_blocks local.blocks) locals) }
 {}
 
-/// At the beginning of each round a member has the model's blocks of the ids that it owns, by rising id, and nothing that
-/// it heard. Of the agreed snapshot it has the blocks of which it is the home, and those of its predecessor; of the new
-/// one nothing before the last round is done.
-pub fn each_member_has_its_blocks_in_order()
+/// The boxes of their blocks tile the domain: each unit of it lies in exactly one block of exactly one member, and no block reaches
+/// outside.
+pub fn the_members_pieces_tile_the_domain()
     ensures { (setup : Setup) (epoch : Epoch) (round : ℕ) (locals : List ForestLocal) → IsGood setup epoch round locals
-        → (owner : BlockId → ℕ) × (home : BlockId → ℕ) × AreDealt (case_of setup) epoch round owner home locals }
+        → TileDomain (case_of setup).roots (flat_map pieces.of_local locals) }
+{}
+
+/// Good vectors are exactly these: in an epoch of the run, and by some owner of each block and some home of each block of the agreed
+/// snapshot, a member has the model's blocks of the ids that it owns, by rising id, and nothing that it heard. Of the agreed snapshot it
+/// has the blocks of which it is the home, and those of its predecessor; of the new one nothing before the last round is done.
+pub fn good_vectors_are_those_dealt()
+    ensures { (setup : Setup) (epoch : Epoch) (round : ℕ) (locals : List ForestLocal) → (IsGood setup epoch round locals
+        ↔ (Runs (case_of setup) epoch × (owner : BlockId → ℕ) × (home : BlockId → ℕ) × AreDealt (case_of setup) epoch round owner home locals)) }
 {}
 
 /// A member's blocks are the model's leaves of the round's time that it owns, each linked with exactly the leaves that touch it and with
@@ -91,6 +99,29 @@ pub fn a_step_tells_what_lies_at_shared_faces()
         → (owner : BlockId → ℕ) × (home : BlockId → ℕ) × AreDealt (case_of setup) epoch round owner home locals
         × ((local : ForestLocal) (to : ℕ) → Contains locals local
         → (forest.out setup local epoch round to).1 ≡ Message.Step (told_strips (case_of setup).roots (model (case_of setup) (time_at epoch round)) owner local.rank to)) }
+{}
+
+/// In the snapshot's round the peers of a member are its buddy and the member whose buddy it is, other than itself.
+pub fn a_snapshots_peers_are_partners()
+    ensures { (setup : Setup) (epoch : Epoch) (round : ℕ) (local : ForestLocal) (other : ℕ) → round ≡ span epoch
+        → (Contains (forest.peers setup local epoch round) other ↔ (Contains epoch.members other × ArePartners epoch.members (case_of setup).shift local.rank other)) }
+{}
+
+/// A member tells its buddy copies of all its blocks, with their links, and others none.
+pub fn a_snapshot_tells_the_buddy_all_blocks()
+    ensures to_buddy { (setup : Setup) (epoch : Epoch) (round : ℕ) (locals : List ForestLocal) (local : ForestLocal) → IsGood setup epoch round locals → round ≡ span epoch → Contains locals local
+        → (forest.out setup local epoch round (buddy_of epoch.members local.rank (case_of setup).shift)).1 ≡ Message.Snapshot (Some local.blocks) }
+    ensures to_others { (setup : Setup) (epoch : Epoch) (round : ℕ) (local : ForestLocal) (to : ℕ) → round ≡ span epoch → to ≢ buddy_of epoch.members local.rank (case_of setup).shift
+        → (forest.out setup local epoch round to).1 ≡ Message.Snapshot None }
+{}
+
+/// After that round each block is at the same owner as before it, and each member has of the new snapshot, which is that of the epoch's
+/// target, its own blocks and copies of those of the member whose buddy it is. A lone member, which is its own buddy, has no copies.
+pub fn a_snapshot_leaves_copies_at_buddies()
+    ensures { (setup : Setup) (epoch : Epoch) (round : ℕ) (locals : List ForestLocal) → IsGood setup epoch round locals → round ≡ span epoch
+        → (owner : BlockId → ℕ) × (home : BlockId → ℕ) × AreDealt (case_of setup) epoch round owner home locals
+        × AreDealt (case_of setup) epoch (round + 1) owner home (next_locals forest setup epoch round locals)
+        × All (HasCopies (case_of setup).shift epoch (next_locals forest setup epoch round locals)) (next_locals forest setup epoch round locals) }
 {}
 
 /// Once all rounds are done, what the members give are the leaves of the model's map at the epoch's target.
