@@ -82,12 +82,14 @@ impl Block {
         }
     }
 
+    /// Its id among the leaves of the model's map.
     pub fn id(&self) -> Id
         ensures { result ≡ self.now.id }
     {
         self.id
     }
 
+    /// The time at which it stands, before or after that time's regrid.
     pub fn point(&self) -> Point
         ensures { result ≡ self.now.point }
     {

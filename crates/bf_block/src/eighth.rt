@@ -64,9 +64,10 @@ impl Eighth {
         })
     }
 
-    /// The leaf that gives it.
+    /// The leaf that gives it, whose cells in the model have these means.
     pub fn id(&self) -> Id
-        ensures { result ≡ self.now.id }
+        ensures value { result ≡ self.now.id }
+        ensures model { AreMeans self.now }
     {
         self.id
     }
@@ -88,13 +89,6 @@ impl Eighth {
         ensures { result ≡ sum self.now.means.values }
     {
         sum_of(self.means.as_slice())
-    }
-
-    // What is known of each eighth.
-    pub(crate) fn known(&self)
-        ensures { AreMeans self.now }
-    {
-        let _id = self.id;
     }
 
     // Writes its means into an octant of the parent's cells.

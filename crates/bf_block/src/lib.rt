@@ -4,8 +4,9 @@
 //! its cells are always those that the model has of its id at its point. What a merging leaf gives to its parent is an
 //! [`Eighth`], with means of the model's cells alone.
 //!
-//! Some accessors are called by tests alone as yet: `Setup::{levels, regrid, refine, coarsen, flow, turns}`,
-//! `Block::point` and `Eighth::sum`. They are for the ranks, which regrid by them, balance by them, and read what they send.
+//! Some calls are made by tests alone as yet: `Setup::{levels, regrid, refine, coarsen, flow, turns}`, `Block::{point, split, eighth,
+//! merged}` and `Eighth::{id, sum}`. They are for the ranks, which regrid by them, balance by them, and read what they send, as
+//! they will send each [`Cargo`].
 #![tactic(auto)]
 
 mod block;

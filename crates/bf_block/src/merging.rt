@@ -14,7 +14,7 @@ fn all_known(parts: &[Eighth])
     ensures { All AreMeans parts.now }
 {
     for part in parts {
-        part.known();
+        let _model = part.id();
     }
 }
 

@@ -90,6 +90,7 @@ impl Setup {
         self.case().levels
     }
 
+    /// How many ranks share the blocks: 1 to 16.
     pub fn ranks(&self) -> u32
         ensures value { result ≡ (case_of self.now).ranks }
         ensures some { 1 ≤ result }
@@ -98,6 +99,7 @@ impl Setup {
         self.case().ranks
     }
 
+    /// How many steps the run has: at most 128.
     pub fn steps(&self) -> u32
         ensures value { result ≡ (case_of self.now).steps }
         ensures few { result ≤ 128 }

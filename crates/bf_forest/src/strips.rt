@@ -10,12 +10,7 @@ use bf_msg::LinkedBlock;
 use std::alloc::Global;
 
 // Puts what a block tells those of a rank behind other strips.
-fn tell(
-    alloc: Global,
-    strips: &mut Vec<Strip>,
-    linked: &LinkedBlock,
-    to: u32,
-) -> Result<(), Memory>
+fn tell(alloc: Global, strips: &mut Vec<Strip>, linked: &LinkedBlock, to: u32) -> Result<(), Memory>
     requires { AreLinkedInside linked.now }
     ensures { OnOk result (strips.new.items ≡ strips.old.items ++ strips_of to linked.now) }
 {

@@ -73,7 +73,7 @@ fn links_with(items: SmallVec<Link, 26>) -> Links
 }
 
 impl Links {
-    /// The links to those of some leaves that touch one.
+    /// The links to those of some leaves that touch one. The leaves rise by id, and at most 56 of them touch it.
     pub fn build(alloc: Global, id: Id, leaves: &[Link], shape: Shape) -> Result<Links, Memory>
         requires domain { IsShape shape }
         requires inside { InShape shape id }
@@ -103,7 +103,7 @@ impl Links {
         Ok(links_with(items))
     }
 
-    /// These links.
+    /// These links, which rise by id and are at most 56.
     pub fn of(alloc: Global, links: &[Link]) -> Result<Links, Memory>
         requires { AreLinks links.now }
         ensures { IfOk result (λ made. made ≡ links.now) }
@@ -131,6 +131,7 @@ impl Links {
         self.items.as_slice()
     }
 
+    /// How many links there are: at most 56.
     pub fn len(&self) -> u32
         ensures value { result ≡ length self.now }
         ensures few { result ≤ 56 }
@@ -138,7 +139,7 @@ impl Links {
         self.items.as_slice().len() as u32
     }
 
-    /// The link at a place, if there is one.
+    /// The link at a place, counted from 0, if there is one.
     pub fn get(&self, place: u32) -> Option<Link>
         ensures { result ≡ slice_get self.now place }
     {

@@ -95,17 +95,11 @@ fn told(alloc: Global, setup: &Setup, target: &Block, source: &Block) -> Result<
 }
 
 // The strip between two roots, by the call that asks for one.
-fn asked(
-    rt: &impl Abort,
-    alloc: Global,
-    setup: &Setup,
-    target: &Block,
-    source: &Block,
-) -> Result<Strip, Memory>
-    requires inside { InShape (case_of setup.now).roots target.now.id }
-    requires its_inside { InShape (case_of setup.now).roots source.now.id }
+fn asked(rt: &impl Abort, alloc: Global, target: &Block, source: &Block) -> Result<Strip, Memory>
+    requires inside { InShape source.now.case.roots target.now.id }
+    requires its_inside { InShape source.now.case.roots source.now.id }
 {
-    let shape = setup.roots();
+    let shape = source.shape();
     assert!(rt; target.id().face(source.id(), shape) == Some(Face::XLow));
     strip_for(alloc, source, target.id())
 }
@@ -151,8 +145,8 @@ fn a_root_hears_the_other(rt: HostRuntime) -> Result<(), Fail> {
 
 #[test]
 fn a_strip_is_asked_for(rt: HostRuntime) -> Result<(), Fail> {
-    let (setup, first, second) = two_roots(&rt, rt.alloc())?;
-    let strip = asked(&rt, rt.alloc(), &setup, &second, &first)?;
+    let (_, first, second) = two_roots(&rt, rt.alloc())?;
+    let strip = asked(&rt, rt.alloc(), &second, &first)?;
     assert_eq!(rt; strip.values(), [80; 4].as_slice());
     Ok(())
 }

@@ -198,6 +198,9 @@ fn rising_root(alloc: Global) -> Result<Case, Memory> {
     regridding(alloc, 1, 55, 7, fills)
 }
 
+// Its cells after it has merged again: the means of the children's cells, rounded down.
+const MERGED: [u32; 8] = [3, 10, 17, 24, 31, 38, 45, 52];
+
 fn expect_children_of_first(rt: &impl Abort, blocks: &[Block])
     ensures { map (λ (b : BlockValue). b.id) blocks.now ≡ children_of (root_id 0) }
 {
@@ -227,6 +230,13 @@ fn eighths(alloc: Global, blocks: &[Block]) -> Result<Vec<Eighth>, Memory>
     Ok(parts)
 }
 
+// An eighth of a block of two cells along an edge is one mean, so its sum is that.
+fn expect_means(rt: &impl Abort, parts: &[Eighth]) {
+    for (part, mean) in parts.iter().zip(MERGED) {
+        assert_eq!(rt; part.sum(), u64::from(mean));
+    }
+}
+
 // The first root, into which the regrid of time 1 merges its children. They are of the finest level.
 fn merged(rt: &impl Abort, alloc: Global, setup: &Setup, blocks: &[Block]) -> Result<Block, Memory>
     requires cases { All (λ (b : BlockValue). b.case ≡ case_of setup.now) blocks.now }
@@ -240,6 +250,7 @@ fn merged(rt: &impl Abort, alloc: Global, setup: &Setup, blocks: &[Block]) -> Re
     siblings_of_the_finest_level_that_spread_little_merge();
     eighths_of_siblings_are_an_octet();
     let parts = eighths(alloc, blocks)?;
+    expect_means(rt, parts.as_slice());
     match Block::merged(alloc, parts) {
         Ok(block) => Ok(block),
         Err(_) => Err(Memory),
@@ -258,9 +269,6 @@ fn eight_children_merge_again(rt: HostRuntime) -> Result<(), Fail> {
             regridded: true
         }
     );
-    assert_eq!(rt;
-        root.cells().values(),
-        [3, 10, 17, 24, 31, 38, 45, 52].as_slice()
-    );
+    assert_eq!(rt; root.cells().values(), MERGED.as_slice());
     Ok(())
 }

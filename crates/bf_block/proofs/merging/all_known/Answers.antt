@@ -12,5 +12,5 @@ loop-part-preserved c = λ k d within.
       | inl before ↦ c.loop-part.invariant k d before
       | inr past ↦
           let same : last ≡ k = omega arith in
-          subst AreMeans (c.part-item.is ∙ get_or_default parts last c.part-item.result d (omega arith) ∙ ap (λ n. get_or parts n d) same) c.known.ensures
+          subst AreMeans (c.part-item.is ∙ get_or_default parts last c.part-item.result d (omega arith) ∙ ap (λ n. get_or parts n d) same) c.id-model.ensures.model
     ]

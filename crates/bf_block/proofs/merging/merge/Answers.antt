@@ -10,7 +10,7 @@ use Rattle.bf_block.proofs.merging.merge.Goals as goal
 
 pub above-requires : goal.above-requires
 above-requires c =
-    first_below c.requires.0 c.requires.1.0 c.requires.1.1.0 c.args.parts.now c.requires.1.1.1 c.all_known.ensures c.index-parts-0.result c.index-parts-0.is c.id.result c.id.ensures
+    first_below c.requires.0 c.requires.1.0 c.requires.1.1.0 c.args.parts.now c.requires.1.1.1 c.all_known.ensures c.index-parts-0.result c.index-parts-0.is c.id.result c.id.ensures.value
 
 pub joined-requires-clause-eight : goal.joined-requires-clause-eight
 joined-requires-clause-eight c =
@@ -26,7 +26,7 @@ of_model-requires c =
     subst IsModels
     (sym (made_is c.requires.0 c.requires.1.0 c.requires.1.1.0 c.args.parts.now c.requires.1.1.1 c.all_known.ensures c.index-parts-0.result c.index-parts-0.is
     (case_of c.in_ok-share.field-0) c.after_regrid.result c.above.result c.in_ok-cells.cells (ap case_of c.in_ok-share.ensures ∙ c.setup-2.ensures)
-    (c.after_regrid.ensures ∙ ap (λ (p : Point). after_regrid p.time) c.point.ensures) (c.above.ensures ∙ ap parent_of c.id.ensures)
+    (c.after_regrid.ensures ∙ ap (λ (p : Point). after_regrid p.time) c.point.ensures) (c.above.ensures ∙ ap parent_of c.id.ensures.value)
     (c.in_ok-cells.ensures ∙ ap (λ s. octants_joined s (means_in c.args.parts.now)) (c.side.ensures.value ∙ ap (λ (x : Case). x.side) c.setup.ensures))))
     (merged_is_models c.requires.0 c.requires.1.0 c.requires.1.1.0 c.args.parts.now c.requires.1.1.1 c.all_known.ensures c.index-parts-0.result c.index-parts-0.is)
 
@@ -35,5 +35,5 @@ returns c = λ case time parent octet.
     c.of_model.ensures
     ∙ made_is case time parent c.args.parts.now octet c.all_known.ensures c.index-parts-0.result c.index-parts-0.is
     (case_of c.in_ok-share.field-0) c.after_regrid.result c.above.result c.in_ok-cells.cells (ap case_of c.in_ok-share.ensures ∙ c.setup-2.ensures)
-    (c.after_regrid.ensures ∙ ap (λ (p : Point). after_regrid p.time) c.point.ensures) (c.above.ensures ∙ ap parent_of c.id.ensures)
+    (c.after_regrid.ensures ∙ ap (λ (p : Point). after_regrid p.time) c.point.ensures) (c.above.ensures ∙ ap parent_of c.id.ensures.value)
     (c.in_ok-cells.ensures ∙ ap (λ s. octants_joined s (means_in c.args.parts.now)) (c.side.ensures.value ∙ ap (λ (x : Case). x.side) c.setup.ensures))
