@@ -1,16 +1,12 @@
 -- Good vectors are exactly those that are dealt in an epoch that comes up.
-use Rattle.std.proofs.Common.{ℕ, List, sym, subst, ◌∙◌}
+use Rattle.std.proofs.Common.{ℕ, List}
 use Rattle.std.specs.Prelude.{◌↔◌}
 use Rattle.bf_id.specs.Id.{BlockId}
-use Rattle.bf_msg.specs.declared.linked_block.LinkedBlock.{LinkedBlock}
-use Rattle.bf_parts.specs.Leaves.{AreAmong, Leaves}
 use Rattle.bf_program.specs.declared.epoch.Epoch.{Epoch}
-use Rattle.bf_stages.specs.Plans.{stage_of}
 use Rattle.bf_forest.specs.declared.local.ForestLocal.{ForestLocal}
 use Rattle.bf_forest.specs.declared.setup.Setup.{Setup}
-use Rattle.bf_forest.specs.ForestLaws.{whole_span}
 use Rattle.bf_forest.specs.Goods.{AreDealt, IsGood}
-use Rattle.bf_forest.specs.LeafLaws.{ForestWorld, all_dealt, leaves_now, locals_are}
+use Rattle.bf_forest.specs.LeafLaws.{all_dealt, placed_where_dealt, told_where_dealt, world_of}
 use Rattle.bf_forest.specs.Setup.{case_of}
 use Rattle.bf_forest.specs.Staging.{Runs}
 
@@ -22,20 +18,12 @@ epoch_runs setup epoch round locals good = good.fits.runs
 -- locals that are dealt in such an epoch are good
 dealt_good : (setup : Setup) (epoch : Epoch) (round : ℕ) (owner home : BlockId → ℕ) (locals : List ForestLocal) → Runs (case_of setup) epoch
     → AreDealt (case_of setup) epoch round owner home locals → IsGood setup epoch round locals
-unfolding IsGood stage_of
-dealt_good setup epoch round owner home locals runs dealt =
-    let world : ForestWorld = record { home = home; owner = owner } in
-    record {
-      world = world;
-      fits = record {
-        runs = runs;
-        owned = subst (λ (ls : Leaves BlockId LinkedBlock). AreAmong epoch.members ls owner) (sym (leaves_now (case_of setup) epoch round (whole_span setup epoch runs))) dealt.owned;
-        housed = dealt.housed;
-        held = dealt.held;
-        also = tt;
-      };
-      are = dealt.are ∙ sym (locals_are setup epoch round world epoch.members runs);
-    }
+unfolding IsGood
+dealt_good setup epoch round owner home locals runs dealt = record {
+  world = world_of owner home;
+  fits = placed_where_dealt setup epoch round owner home locals runs dealt;
+  are = told_where_dealt setup epoch round owner home locals runs dealt;
+}
 
 pub good_where_dealt : (setup : Setup) (epoch : Epoch) (round : ℕ) (locals : List ForestLocal)
     → IsGood setup epoch round locals ↔ (Runs (case_of setup) epoch × (owner : BlockId → ℕ) × (home : BlockId → ℕ) × AreDealt (case_of setup) epoch round owner home locals)

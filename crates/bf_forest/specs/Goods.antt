@@ -1,5 +1,5 @@
 -- Good vectors of the ranks' locals.
-use Rattle.std.specs.Prelude.{◌≡◌, ◌≢◌, ◌↔◌, ◌⊎◌, ℕ, nat_lt, ◌==◌, false, List, [], map, All, AllPairs, Contains, if◌then◌else◌}
+use Rattle.std.specs.Prelude.{◌≡◌, ◌≢◌, ◌↔◌, ◌⊎◌, ℕ, nat_lt, ◌==◌, false, List, [], filter, map, All, AllPairs, Contains, if◌then◌else◌}
 use Rattle.bf_buddy.specs.Buddy.{buddy_of}
 use Rattle.bf_program.specs.declared.epoch.Epoch.{Epoch}
 use Rattle.bf_id.specs.declared.shape.Shape.{Shape}
@@ -93,3 +93,19 @@ pub record HasCopies (shift : ℕ) (epoch : Epoch) (locals : List ForestLocal) (
   pub source : buddy_of epoch.members local.spare.source shift ≡ local.rank
   pub copied : (from : ForestLocal) → Contains locals from → from.rank ≡ local.spare.source → from.rank ≢ local.rank → local.spare.other ≡ from.blocks
   pub alone : local.spare.source ≡ local.rank → local.spare.other ≡ []
+
+-- a rank's part of a time's map: of exactly those leaves that it owns, in the map's order, the model's blocks, linked with the leaves that touch them
+pub record IsPart (c : Case) (time : ℕ) (owner : BlockId → ℕ) (rank : ℕ) (blocks : List LinkedBlock) : Type 0 where
+  pub ids : map (λ (b : LinkedBlock). b.block.id) blocks ≡ filter (λ i. owner i == rank) (ids_of (model c time))
+  pub linked : All (IsLinkedBlock c time owner rank) blocks
+
+-- what a member has of the agreed snapshot: its own part, and a copy of that of the home whose buddy it is; one that is its own buddy has no copy
+pub record HasAgreed (c : Case) (epoch : Epoch) (home : BlockId → ℕ) (local : ForestLocal) : Type 0 where
+  pub time : local.active.time ≡ epoch.time
+  pub homes : local.active.homes ≡ epoch.homes
+  pub rank_home : Contains epoch.homes local.rank
+  pub source_home : Contains epoch.homes local.active.source
+  pub source : buddy_of epoch.homes local.active.source c.shift ≡ local.rank
+  pub own : IsPart c epoch.time home local.rank local.active.own
+  pub copied : local.active.source ≢ local.rank → IsPart c epoch.time home local.active.source local.active.other
+  pub alone : local.active.source ≡ local.rank → local.active.other ≡ []

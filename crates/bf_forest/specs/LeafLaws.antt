@@ -106,6 +106,25 @@ pub all_dealt : (setup : Setup) (epoch : Epoch) (round : ℕ) (locals : List For
 unfolding IsGood
 all_dealt setup epoch round locals good = (good.world.owner, good.world.home, dealt setup epoch round good.world locals good.fits good.are)
 
+-- and where they are dealt in an epoch that comes up, their owners and homes are placed, and the locals are told
+abbrev pub world_of : (owner home : BlockId → ℕ) → ForestWorld
+world_of owner home = record { home = home; owner = owner }
+
+pub placed_where_dealt : (setup : Setup) (epoch : Epoch) (round : ℕ) (owner home : BlockId → ℕ) (locals : List ForestLocal) → Runs (case_of setup) epoch
+    → AreDealt (case_of setup) epoch round owner home locals → Placed setup epoch round (world_of owner home)
+unfolding stage_of
+placed_where_dealt setup epoch round owner home locals runs are_dealt = record {
+  runs = runs;
+  owned = subst (λ (ls : Leaves BlockId LinkedBlock). AreAmong epoch.members ls owner) (sym (leaves_now (case_of setup) epoch round (whole_span setup epoch runs))) are_dealt.owned;
+  housed = are_dealt.housed;
+  held = are_dealt.held;
+  also = tt;
+}
+
+pub told_where_dealt : (setup : Setup) (epoch : Epoch) (round : ℕ) (owner home : BlockId → ℕ) (locals : List ForestLocal) → Runs (case_of setup) epoch
+    → AreDealt (case_of setup) epoch round owner home locals → locals ≡ map (local_told forest forest_staging setup epoch round (world_of owner home)) epoch.members
+told_where_dealt setup epoch round owner home locals runs are_dealt = are_dealt.are ∙ sym (locals_are setup epoch round (world_of owner home) epoch.members runs)
+
 -- THE LEAVES OF ALL MEMBERS
 abbrev own_blocks : ForestLocal → List BlockValue
 own_blocks local = bare_blocks local.blocks
@@ -182,20 +201,19 @@ last_leaves setup epoch locals good =
     (time_end epoch (rounds_of forest_plan epoch) (whole_span setup epoch good.fits.runs) (let many = rounds_are epoch in omega (arith, many))) (good_leaves setup epoch (rounds_of forest_plan epoch) locals good)
 
 -- A COMMIT
-pub all_kept : (setup : Setup) (epoch : Epoch) (locals : List ForestLocal) → IsGood setup epoch (rounds_of forest_plan epoch) locals → epoch.target < (case_of setup).steps
-    → (owner : BlockId → ℕ) × (home : BlockId → ℕ) × AreDealt (case_of setup) epoch (rounds_of forest_plan epoch) owner home locals
-    × AreDealt (case_of setup) (epoch_after_commit (case_of setup).steps (case_of setup).snapshot epoch) 0 owner owner (map forest.keep locals)
-unfolding IsGood
-all_kept setup epoch locals good goes_on =
+pub all_kept : (setup : Setup) (epoch : Epoch) (owner home : BlockId → ℕ) (locals : List ForestLocal) → Runs (case_of setup) epoch
+    → AreDealt (case_of setup) epoch (rounds_of forest_plan epoch) owner home locals → epoch.target < (case_of setup).steps
+    → AreDealt (case_of setup) (epoch_after_commit (case_of setup).steps (case_of setup).snapshot epoch) 0 owner owner (map forest.keep locals)
+all_kept setup epoch owner home locals runs are_dealt goes_on =
+    let last : ℕ = rounds_of forest_plan epoch in
     let next : Epoch = epoch_after_commit (case_of setup).steps (case_of setup).snapshot epoch in
-    let after : ForestWorld = kept_world forest forest_staging linked_kind setup (staged setup) (sides setup) (spans setup) good.world in
-    let placed : Placed setup next 0 after = kept_placed forest forest_staging linked_kind setup (staged setup) (sides setup) (spans setup) epoch good.world good.fits goes_on in (
-      good.world.owner,
-      good.world.home,
-      dealt setup epoch (rounds_of forest_plan epoch) good.world locals good.fits good.are,
-      dealt setup next 0 after (map forest.keep locals) placed
-          (ap (map forest.keep) good.are ∙ kept_told forest forest_staging linked_kind setup (staged setup) (sides setup) (spans setup) epoch good.world good.fits goes_on),
-    )
+    let world : ForestWorld = world_of owner home in
+    let fits : Placed setup epoch last world = placed_where_dealt setup epoch last owner home locals runs are_dealt in
+    let after : ForestWorld = kept_world forest forest_staging linked_kind setup (staged setup) (sides setup) (spans setup) world in
+    let placed : Placed setup next 0 after = kept_placed forest forest_staging linked_kind setup (staged setup) (sides setup) (spans setup) epoch world fits goes_on in
+    dealt setup next 0 after (map forest.keep locals) placed
+    (ap (map forest.keep) (told_where_dealt setup epoch last owner home locals runs are_dealt)
+    ∙ kept_told forest forest_staging linked_kind setup (staged setup) (sides setup) (spans setup) epoch world fits goes_on)
 
 -- A RESTORE
 pub restored_leaves : (setup : Setup) (epoch : Epoch) (round : ℕ) (locals : List ForestLocal) (lives : ℕ → Bool) → IsGood setup epoch round locals
@@ -207,23 +225,22 @@ restored_leaves setup epoch round locals lives good none =
     (good_leaves setup (restored_epoch lives epoch) 0 after ((lawful_forest setup).goods.restore epoch round locals lives good none))
 
 -- who lives goes on with the blocks whose heir it is
-pub all_regained : (setup : Setup) (epoch : Epoch) (round : ℕ) (locals : List ForestLocal) (lives : ℕ → Bool) → IsGood setup epoch round locals
+pub all_regained : (setup : Setup) (epoch : Epoch) (round : ℕ) (owner home : BlockId → ℕ) (locals : List ForestLocal) (lives : ℕ → Bool) → Runs (case_of setup) epoch
+    → AreDealt (case_of setup) epoch round owner home locals
     → first_lost_of epoch.homes (forest.stored locals) (filter lives epoch.members) (forest.shift setup) ≡ None
-    → (owner : BlockId → ℕ) × (home : BlockId → ℕ) × AreDealt (case_of setup) epoch round owner home locals
-    × AreDealt (case_of setup) (restored_epoch lives epoch) 0 (λ i. heir_of epoch.homes (filter lives epoch.members) (case_of setup).shift (home i)) home
+    → AreDealt (case_of setup) (restored_epoch lives epoch) 0 (λ i. heir_of epoch.homes (filter lives epoch.members) (case_of setup).shift (home i)) home
     (restored_locals forest setup epoch lives locals)
-unfolding IsGood
-all_regained setup epoch round locals lives good none =
-    let after : ForestWorld = regained_world forest forest_staging linked_kind setup (staged setup) (sides setup) (spans setup) epoch lives good.world in
-    let none_told : first_lost_of epoch.homes (forest.stored (map (local_told forest forest_staging setup epoch round good.world) epoch.members)) (filter lives epoch.members) (forest.shift setup) ≡ None =
-    ap (λ (ls : List ForestLocal). first_lost_of epoch.homes (forest.stored ls) (filter lives epoch.members) (forest.shift setup)) (sym good.are) ∙ none in
-    let placed : Placed setup (restored_epoch lives epoch) 0 after = regained_placed forest forest_staging linked_kind setup (staged setup) (sides setup) (spans setup) epoch round good.world lives good.fits none_told in (
-      good.world.owner,
-      good.world.home,
-      dealt setup epoch round good.world locals good.fits good.are,
-      dealt setup (restored_epoch lives epoch) 0 after (restored_locals forest setup epoch lives locals) placed
-          (ap (restored_locals forest setup epoch lives) good.are ∙ restored_told forest forest_staging linked_kind setup (staged setup) (sides setup) (spans setup) epoch round good.world lives good.fits),
-    )
+all_regained setup epoch round owner home locals lives runs are_dealt none =
+    let world : ForestWorld = world_of owner home in
+    let fits : Placed setup epoch round world = placed_where_dealt setup epoch round owner home locals runs are_dealt in
+    let told : locals ≡ map (local_told forest forest_staging setup epoch round world) epoch.members = told_where_dealt setup epoch round owner home locals runs are_dealt in
+    let after : ForestWorld = regained_world forest forest_staging linked_kind setup (staged setup) (sides setup) (spans setup) epoch lives world in
+    let none_told : first_lost_of epoch.homes (forest.stored (map (local_told forest forest_staging setup epoch round world) epoch.members)) (filter lives epoch.members) (forest.shift setup) ≡ None =
+    ap (λ (ls : List ForestLocal). first_lost_of epoch.homes (forest.stored ls) (filter lives epoch.members) (forest.shift setup)) (sym told) ∙ none in
+    let placed : Placed setup (restored_epoch lives epoch) 0 after = regained_placed forest forest_staging linked_kind setup (staged setup) (sides setup) (spans setup) epoch round world lives fits none_told in
+    dealt setup (restored_epoch lives epoch) 0 after (restored_locals forest setup epoch lives locals) placed
+    (ap (restored_locals forest setup epoch lives) told
+    ∙ restored_told forest forest_staging linked_kind setup (staged setup) (sides setup) (spans setup) epoch round world lives fits)
 
 -- THE NUMBER OF ROUNDS, and a home that has a block
 pub round_each : (setup : Setup) (epoch : Epoch) (round : ℕ) (locals : List ForestLocal) → IsGood setup epoch round locals → rounds_of forest_plan epoch ≡ epoch.target - epoch.time + 1

@@ -29,7 +29,7 @@ use Rattle.bf_forest.specs.declared.setup.Setup.{Setup}
 use Rattle.bf_forest.specs.declared.stage.Stage.{Stage}
 use Rattle.bf_forest.specs.ForestLaws.{staged, whole_span}
 use Rattle.bf_forest.specs.Goods.{AreDealt, ArePartners, HasCopies, IsGood, local_at}
-use Rattle.bf_forest.specs.LeafLaws.{ForestWorld, Placed, all_dealt, dealt}
+use Rattle.bf_forest.specs.LeafLaws.{ForestWorld, Placed, all_dealt, dealt, placed_where_dealt, told_where_dealt, world_of}
 use Rattle.bf_forest.specs.Meanings.{forest, pieces}
 use Rattle.bf_forest.specs.ModelBlocks.{blocks_at}
 use Rattle.bf_forest.specs.RoundLaws.{has_stages}
@@ -37,7 +37,7 @@ use Rattle.bf_forest.specs.Rounds.{play_of}
 use Rattle.bf_forest.specs.Setup.{case_of}
 use Rattle.bf_forest.specs.StageLaws.{rounds_are, stage_snapshot, time_end}
 use Rattle.bf_forest.specs.Stages.{forest_plan}
-use Rattle.bf_forest.specs.Staging.{forest_staging}
+use Rattle.bf_forest.specs.Staging.{forest_staging, Runs}
 
 -- PEERS
 partners_decide : (members : List ℕ) (shift rank other : ℕ) → Decides (are_paired members shift rank other) (ArePartners members shift rank other)
@@ -140,26 +140,21 @@ module _ (c : Case) (epoch : Epoch) (round : ℕ) (owner home : BlockId → ℕ)
       (copies_at is.0 (any_from_passes (λ member. member == is.0) epoch.members is.0 is.1 (eq-eqb is.0 is.0 refl))))
 
 -- so have all after the round, in which nobody's blocks move
-pub all_copied_after : (setup : Setup) (epoch : Epoch) (round : ℕ) (locals : List ForestLocal) → IsGood setup epoch round locals → round ≡ span epoch
-    → (owner : BlockId → ℕ) × (home : BlockId → ℕ) × AreDealt (case_of setup) epoch round owner home locals
-    × AreDealt (case_of setup) epoch (round + 1) owner home (next_locals forest setup epoch round locals)
+pub all_copied_after : (setup : Setup) (epoch : Epoch) (round : ℕ) (owner home : BlockId → ℕ) (locals : List ForestLocal) → Runs (case_of setup) epoch
+    → AreDealt (case_of setup) epoch round owner home locals → round ≡ span epoch
+    → AreDealt (case_of setup) epoch (round + 1) owner home (next_locals forest setup epoch round locals)
     × All (HasCopies (case_of setup).shift epoch (next_locals forest setup epoch round locals)) (next_locals forest setup epoch round locals)
-unfolding IsGood
-all_copied_after setup epoch round locals good last =
-    let world : ForestWorld = good.world in
+all_copied_after setup epoch round owner home locals runs are_dealt last =
+    let world : ForestWorld = world_of owner home in
+    let fits : Placed setup epoch round world = placed_where_dealt setup epoch round owner home locals runs are_dealt in
     let done : rounds_of forest_plan epoch ≡ round + 1 = omega (arith, rounds_are epoch, last) in
     let within : round < rounds_of forest_plan epoch = omega (arith, done) in
     let keeps = keeps_telling forest forest_staging setup (staged setup) pieces (has_stages setup) in
-    let placed : Placed setup epoch (round + 1) world = keeps.fits epoch round world good.fits within in
+    let placed : Placed setup epoch (round + 1) world = keeps.fits epoch round world fits within in
     let now : ℕ → ForestLocal = local_told forest forest_staging setup epoch round world in
     let then : ℕ → ForestLocal = local_told forest forest_staging setup epoch (round + 1) world in
     let next : next_locals forest setup epoch round locals ≡ map then epoch.members =
-    ap (next_locals forest setup epoch round) good.are
-    ∙ next_is forest setup epoch round ((telling_of forest forest_staging).course setup epoch round world) now then (keeps.leads epoch round world good.fits within) in
-    let after = dealt setup epoch (round + 1) world (next_locals forest setup epoch round locals) placed next in (
-      world.owner,
-      world.home,
-      dealt setup epoch round world locals good.fits good.are,
-      after,
-      all_copied (case_of setup) epoch (round + 1) world.owner world.home (next_locals forest setup epoch round locals) after (whole_span setup epoch good.fits.runs) done,
-    )
+    ap (next_locals forest setup epoch round) (told_where_dealt setup epoch round owner home locals runs are_dealt)
+    ∙ next_is forest setup epoch round ((telling_of forest forest_staging).course setup epoch round world) now then (keeps.leads epoch round world fits within) in
+    let after = dealt setup epoch (round + 1) world (next_locals forest setup epoch round locals) placed next in
+    (after, all_copied (case_of setup) epoch (round + 1) owner home (next_locals forest setup epoch round locals) after (whole_span setup epoch runs) done)

@@ -1,10 +1,15 @@
--- What the members of a good vector have and tell: linked blocks, neighbours, strips.
-use Rattle.std.proofs.Common.{◌≡◌, ℕ, ◌<◌, Bool, true, false, cond, List, [], Contains, filter, refl, sym, ap, subst, ◌∙◌, All}
+-- What members have and tell where blocks are dealt to them: linked blocks, parts of the agreed snapshot, neighbours, strips.
+use Rattle.std.proofs.Common.{◌≡◌, ℕ, ◌<◌, Bool, true, false, cond, List, [], ◌⊎◌, inl, inr, Contains, filter, refl, sym, ap, subst, ◌∙◌, All}
 use Rattle.std.specs.Prelude.{◌==◌, ◌&&◌, ◌↔◌, not}
 use Rattle.std.specs.List.{list_any}
-use Rattle.std.proofs.lemmas.Bool.{and_from, and_parts, eq-eqb, eqb-true}
-use Rattle.std.proofs.lemmas.List.Elements.{All-nil}
-use Rattle.bf_lemmas.proofs.Lists.{All-from_Contains}
+use Rattle.std.proofs.lemmas.Bool.{and_from, and_parts, or_cases, eq-eqb, eqb-true, false_from_ne_true}
+use Rattle.std.proofs.lemmas.List.{map-id}
+use Rattle.std.proofs.lemmas.List.Elements.{All-nil, All-contains, All-contains_itself}
+use Rattle.bf_lemmas.proofs.Lists.{All-from_Contains, map_twice}
+use Rattle.bf_buddy.specs.Buddy.{buddy_of, predecessor_of}
+use Rattle.bf_buddy.specs.Members.{is_member}
+use Rattle.bf_buddy.proofs.LawLemmas.{buddy_undoes}
+use Rattle.bf_buddy.proofs.MemberLemmas.{all_member}
 use Rattle.bf_id.specs.Id.{BlockId, touches}
 use Rattle.bf_case.specs.declared.case.Case.{Case}
 use Rattle.bf_case.specs.Map.{ids_of}
@@ -16,7 +21,8 @@ use Rattle.bf_links.specs.Links.{is_owner, links_of, IsLinkOf}
 use Rattle.bf_links.proofs.LinkLemmas.{links_exact}
 use Rattle.bf_ghost.specs.Strips.{StripValue}
 use Rattle.bf_ghost.specs.Telling.{told_strips}
-use Rattle.bf_parts.specs.Leaves.{copy_at, part_of}
+use Rattle.bf_parts.specs.Leaves.{copy_at, is_filled, part_of}
+use Rattle.bf_parts.specs.SideLaws.{predecessor_member}
 use Rattle.bf_program.specs.declared.epoch.Epoch.{Epoch}
 use Rattle.bf_stages.specs.Plans.{span}
 use Rattle.bf_msg.specs.declared.linked_block.LinkedBlock.{LinkedBlock}
@@ -27,8 +33,7 @@ use Rattle.bf_forest.specs.declared.stage.Stage.{Stage}
 use Rattle.bf_forest.specs.Setup.{case_of, every_setup_keeps_roots}
 use Rattle.bf_forest.specs.BlockLaws.{block_is, part_each}
 use Rattle.bf_forest.specs.Cases.{KeepsRoots}
-use Rattle.bf_forest.specs.Goods.{local_at, AreDealt, AreNeighbors, HasLinked, IsGood, IsLinkedBlock}
-use Rattle.bf_forest.specs.LeafLaws.{all_dealt}
+use Rattle.bf_forest.specs.Goods.{local_at, AreDealt, AreNeighbors, HasAgreed, HasLinked, IsLinkedBlock, IsPart}
 use Rattle.bf_forest.specs.Meanings.{forest}
 use Rattle.bf_forest.specs.ModelBlocks.{blocks_at, linked_at}
 use Rattle.bf_forest.specs.NeighborLaws.{linked_is}
@@ -65,17 +70,72 @@ local_is : (c : Case) (epoch : Epoch) (round : ℕ) (owner home : BlockId → �
     → (rank : ℕ) × Contains epoch.members rank × (local ≡ local_at c epoch round owner home rank)
 local_is c epoch round owner home locals local dealt has = Contains-map_cases (local_at c epoch round owner home) epoch.members local (subst (λ (l : List ForestLocal). Contains l local) dealt.are has)
 
-pub all_linked : (setup : Setup) (epoch : Epoch) (round : ℕ) (locals : List ForestLocal) → IsGood setup epoch round locals
-    → (owner : BlockId → ℕ) × (home : BlockId → ℕ) × AreDealt (case_of setup) epoch round owner home locals × All (HasLinked (case_of setup) epoch round owner home) locals
-all_linked setup epoch round locals good =
+pub all_linked : (setup : Setup) (epoch : Epoch) (round : ℕ) (owner home : BlockId → ℕ) (locals : List ForestLocal) → AreDealt (case_of setup) epoch round owner home locals
+    → All (HasLinked (case_of setup) epoch round owner home) locals
+all_linked setup epoch round owner home locals dealt =
     let c : Case = case_of setup in
-    let has = all_dealt setup epoch round locals good in (
-      has.0,
-      has.1,
-      has.2,
-      All-from_Contains (HasLinked c epoch round has.0 has.1) locals (λ local there.
-          let is = local_is c epoch round has.0 has.1 locals local has.2 there in
-          subst (HasLinked c epoch round has.0 has.1) (sym is.2) (local_linked c epoch round has.0 has.1 is.0 (every_setup_keeps_roots setup))),
+    All-from_Contains (HasLinked c epoch round owner home) locals (λ local there.
+    let is = local_is c epoch round owner home locals local dealt there in
+    subst (HasLinked c epoch round owner home) (sym is.2) (local_linked c epoch round owner home is.0 (every_setup_keeps_roots setup)))
+
+-- THE AGREED SNAPSHOT
+part_is : (c : Case) (time : ℕ) (owner : BlockId → ℕ) (rank : ℕ) → KeepsRoots c → IsPart c time owner rank (part_of (blocks_at c time) owner rank)
+unfolding part_of blocks_at
+part_is c time owner rank runs =
+    let ids : List BlockId = filter (λ i. owner i == rank) (ids_of (model c time)) in
+    record {
+      ids = map_twice (λ (b : LinkedBlock). b.block.id) (linked_at c time owner) (λ i. i) (λ i. refl) ids ∙ map-id ids;
+      linked = part_linked c time owner rank runs;
+    }
+
+contains_member : (members : List ℕ) (rank : ℕ) → is_member members rank ≡ true → Contains members rank
+contains_member members rank is_in = all_member (Contains members) members rank (All-contains_itself members) is_in
+
+local_agreed : (c : Case) (epoch : Epoch) (round : ℕ) (owner home : BlockId → ℕ) (locals : List ForestLocal) (rank : ℕ) → KeepsRoots c → AreDealt c epoch round owner home locals
+    → is_member epoch.members rank ≡ true → HasAgreed c epoch home (local_at c epoch round owner home rank)
+local_agreed c epoch round owner home locals rank runs dealt member =
+    let source : ℕ = predecessor_of epoch.homes rank c.shift in
+    let is_home : is_member epoch.homes rank ≡ true = dealt.held.among rank member in
+    let part : ℕ → List LinkedBlock = part_of (blocks_at c epoch.time) home in
+    record {
+      time = refl;
+      homes = refl;
+      rank_home = contains_member epoch.homes rank is_home;
+      source_home = contains_member epoch.homes source (predecessor_member epoch.homes rank c.shift dealt.held.homes_rise is_home);
+      source = buddy_undoes epoch.homes rank c.shift dealt.held.homes_rise is_home;
+      own = part_is c epoch.time home rank runs;
+      copied = λ apart.
+          subst (IsPart c epoch.time home source) (sym (ap (λ b. cond b [] (part source)) (false_from_ne_true (source == rank) (λ same. apart (eqb-true source rank same)))))
+          (part_is c epoch.time home source runs);
+      alone = λ own. ap (λ b. cond b [] (part source)) (eq-eqb source rank own);
+    }
+
+pub all_agreed : (setup : Setup) (epoch : Epoch) (round : ℕ) (owner home : BlockId → ℕ) (locals : List ForestLocal) → AreDealt (case_of setup) epoch round owner home locals
+    → All (HasAgreed (case_of setup) epoch home) locals
+all_agreed setup epoch round owner home locals dealt =
+    let c : Case = case_of setup in
+    All-from_Contains (HasAgreed c epoch home) locals (λ local there.
+    let is = local_is c epoch round owner home locals local dealt there in
+    subst (HasAgreed c epoch home) (sym is.2)
+    (local_agreed c epoch round owner home locals is.0 (every_setup_keeps_roots setup) dealt
+    (any_from_passes (λ member. member == is.0) epoch.members is.0 is.1 (eq-eqb is.0 is.0 refl))))
+
+-- each leaf has a home, and that or its buddy is a member
+pub all_housed : (setup : Setup) (epoch : Epoch) (round : ℕ) (owner home : BlockId → ℕ) (locals : List ForestLocal) (leaf : BlockId) → AreDealt (case_of setup) epoch round owner home locals
+    → Contains (ids_of (model (case_of setup) epoch.time)) leaf
+    → Contains epoch.homes (home leaf) × (Contains epoch.members (home leaf) ⊎ Contains epoch.members (buddy_of epoch.homes (home leaf) (case_of setup).shift))
+unfolding blocks_at is_filled
+all_housed setup epoch round owner home locals leaf dealt there =
+    let c : Case = case_of setup in
+    let ids : List BlockId = ids_of (model c epoch.time) in
+    let buddy : ℕ = buddy_of epoch.homes (home leaf) c.shift in
+    let is_home : is_member epoch.homes (home leaf) ≡ true = All-contains (λ i. is_member epoch.homes (home i) ≡ true) ids leaf dealt.housed there in
+    let filled : list_any (λ i. home i == home leaf) ids ≡ true = any_from_passes (λ i. home i == home leaf) ids leaf there (eq-eqb (home leaf) (home leaf) refl) in (
+      contains_member epoch.homes (home leaf) is_home,
+      elim (or_cases (is_member epoch.members (home leaf)) (is_member epoch.members buddy) (dealt.held.safe (home leaf) is_home filled)) [
+        | inl itself ↦ inl (contains_member epoch.members (home leaf) itself)
+        | inr other ↦ inr (contains_member epoch.members buddy other)
+      ],
     )
 
 -- NEIGHBOURS
@@ -122,50 +182,35 @@ module _ (c : Case) (time : ℕ) (owner : BlockId → ℕ) where
       (and_from (owner are.own == rank) (list_any (λ j. touches c.roots are.own j && owner j == other) ids) (eq-eqb (owner are.own) rank are.owned) near) in
       and_from (not (other == rank)) (list_any (is_linked other) (part rank)) (ap not are.apart) (linked_is c time owner rank other ∙ some)
 
-pub step_peers : (setup : Setup) (epoch : Epoch) (round : ℕ) (locals : List ForestLocal) → IsGood setup epoch round locals → round < span epoch
-    → (owner : BlockId → ℕ) × (home : BlockId → ℕ) × AreDealt (case_of setup) epoch round owner home locals
-    × ((local : ForestLocal) (other : ℕ) → Contains locals local
-    → (Contains (forest.peers setup local epoch round) other ↔ (Contains epoch.members other × AreNeighbors (case_of setup) (time_at epoch round) owner local.rank other)))
-step_peers setup epoch round locals good before =
+pub step_peers : (setup : Setup) (epoch : Epoch) (round : ℕ) (owner home : BlockId → ℕ) (locals : List ForestLocal) (local : ForestLocal) (other : ℕ)
+    → AreDealt (case_of setup) epoch round owner home locals → round < span epoch → Contains locals local
+    → Contains (forest.peers setup local epoch round) other ↔ (Contains epoch.members other × AreNeighbors (case_of setup) (time_at epoch round) owner local.rank other)
+step_peers setup epoch round owner home locals local other dealt before there =
     let c : Case = case_of setup in
-    let has = all_dealt setup epoch round locals good in
-    let owner = has.0 in (
-      owner,
-      has.1,
-      has.2,
-      λ local other there.
-          let is = local_is c epoch round owner has.1 locals local has.2 there in
-          let rank = is.0 in
-          let peers : forest.peers setup local epoch round ≡ filter (is_neighbor rank (part_of (blocks_at c (time_at epoch round)) owner rank)) epoch.members =
-          ap (λ (stage : Stage). (play_of c epoch stage).peers epoch.members local) (stage_step epoch round before)
-          ∙ ap (λ (l : ForestLocal). filter (is_neighbor l.rank l.blocks) epoch.members) is.2 in
-          let same : local.rank ≡ rank = ap (λ (l : ForestLocal). l.rank) is.2 in (
-            λ in_peers.
-                let one = Contains-filter_cases (is_neighbor rank (part_of (blocks_at c (time_at epoch round)) owner rank)) epoch.members other (subst (λ (l : List ℕ). Contains l other) peers in_peers) in
-                (one.0, subst (λ r. AreNeighbors c (time_at epoch round) owner r other) (sym same) (sees c (time_at epoch round) owner rank other one.1)),
-            λ near.
-                subst (λ (l : List ℕ). Contains l other) (sym peers)
-                (Contains-filter (is_neighbor rank (part_of (blocks_at c (time_at epoch round)) owner rank)) epoch.members other near.0
-                (seen c (time_at epoch round) owner rank other (subst (λ r. AreNeighbors c (time_at epoch round) owner r other) same near.1))),
-          ),
+    let is = local_is c epoch round owner home locals local dealt there in
+    let rank = is.0 in
+    let sees_other : ℕ → Bool = is_neighbor rank (part_of (blocks_at c (time_at epoch round)) owner rank) in
+    let peers : forest.peers setup local epoch round ≡ filter sees_other epoch.members =
+    ap (λ (stage : Stage). (play_of c epoch stage).peers epoch.members local) (stage_step epoch round before)
+    ∙ ap (λ (l : ForestLocal). filter (is_neighbor l.rank l.blocks) epoch.members) is.2 in
+    let same : local.rank ≡ rank = ap (λ (l : ForestLocal). l.rank) is.2 in (
+      λ in_peers.
+          let one = Contains-filter_cases sees_other epoch.members other (subst (λ (l : List ℕ). Contains l other) peers in_peers) in
+          (one.0, subst (λ r. AreNeighbors c (time_at epoch round) owner r other) (sym same) (sees c (time_at epoch round) owner rank other one.1)),
+      λ near.
+          subst (λ (l : List ℕ). Contains l other) (sym peers)
+          (Contains-filter sees_other epoch.members other near.0
+          (seen c (time_at epoch round) owner rank other (subst (λ r. AreNeighbors c (time_at epoch round) owner r other) same near.1))),
     )
 
 -- STRIPS
-pub step_tells : (setup : Setup) (epoch : Epoch) (round : ℕ) (locals : List ForestLocal) → IsGood setup epoch round locals → round < span epoch
-    → (owner : BlockId → ℕ) × (home : BlockId → ℕ) × AreDealt (case_of setup) epoch round owner home locals
-    × ((local : ForestLocal) (to : ℕ) → Contains locals local
-    → (forest.out setup local epoch round to).1 ≡ StepMessage (told_strips (case_of setup).roots (model (case_of setup) (time_at epoch round)) owner local.rank to))
-step_tells setup epoch round locals good before =
+pub step_tells : (setup : Setup) (epoch : Epoch) (round : ℕ) (owner home : BlockId → ℕ) (locals : List ForestLocal) (local : ForestLocal) (to : ℕ)
+    → AreDealt (case_of setup) epoch round owner home locals → round < span epoch → Contains locals local
+    → (forest.out setup local epoch round to).1 ≡ StepMessage (told_strips (case_of setup).roots (model (case_of setup) (time_at epoch round)) owner local.rank to)
+step_tells setup epoch round owner home locals local to dealt before there =
     let c : Case = case_of setup in
-    let has = all_dealt setup epoch round locals good in
-    let owner = has.0 in (
-      owner,
-      has.1,
-      has.2,
-      λ local to there.
-          let is = local_is c epoch round owner has.1 locals local has.2 there in
-          ap (λ (stage : Stage). ((play_of c epoch stage).out local to).1) (stage_step epoch round before)
-          ∙ ap (λ (l : ForestLocal). StepMessage (strips_to to l.blocks)) is.2
-          ∙ ap (λ (strips : List StripValue). StepMessage strips) (part_tells c (time_at epoch round) (every_setup_keeps_roots setup) owner is.0 to)
-          ∙ ap (λ (rank : ℕ). StepMessage (told_strips c.roots (model c (time_at epoch round)) owner rank to)) (sym (ap (λ (l : ForestLocal). l.rank) is.2)),
-    )
+    let is = local_is c epoch round owner home locals local dealt there in
+    ap (λ (stage : Stage). ((play_of c epoch stage).out local to).1) (stage_step epoch round before)
+    ∙ ap (λ (l : ForestLocal). StepMessage (strips_to to l.blocks)) is.2
+    ∙ ap (λ (strips : List StripValue). StepMessage strips) (part_tells c (time_at epoch round) (every_setup_keeps_roots setup) owner is.0 to)
+    ∙ ap (λ (rank : ℕ). StepMessage (told_strips c.roots (model c (time_at epoch round)) owner rank to)) (sym (ap (λ (l : ForestLocal). l.rank) is.2))

@@ -1,5 +1,5 @@
 //! What holds of all ranks together, each law the contract of a call that does nothing.
-ghost use Rattle.std.specs.Prelude.{◌≡◌, ◌≢◌, ◌↔◌, ℕ, ◌+◌, ◌-◌, ◌<◌, ◌≤◌, Bool, IsTrue, List, Some, None, All, Contains, filter, map};
+ghost use Rattle.std.specs.Prelude.{◌≡◌, ◌≢◌, ◌↔◌, ◌⊎◌, ℕ, ◌+◌, ◌-◌, ◌<◌, ◌≤◌, Bool, IsTrue, List, Some, None, All, Contains, filter, map};
 ghost use Rattle.std.specs.List.{flat_map};
 ghost use Rattle.bf_buddy.specs.Buddy.{buddy_of};
 ghost use Rattle.bf_buddy.specs.Members.{is_member};
@@ -13,12 +13,13 @@ ghost use Rattle.bf_program.specs.Restores.{heir_of, restored_epoch, restored_lo
 ghost use Rattle.bf_rounds.specs.Canonical.{IsSendingTold, IsHearingTold, IsFinishingTold};
 ghost use Rattle.bf_stages.specs.Stages.{telling_of};
 ghost use Rattle.bf_id.specs.Id.{BlockId};
+ghost use Rattle.bf_case.specs.Map.{ids_of};
 ghost use Rattle.bf_case.specs.Model.{model};
 ghost use Rattle.bf_forest.specs.declared.setup.Setup.{Setup};
 ghost use Rattle.bf_forest.specs.Setup.{case_of};
 ghost use Rattle.bf_forest.specs.declared.local.ForestLocal.{ForestLocal};
 ghost use Rattle.bf_msg.specs.declared.message.Message.{Message};
-ghost use Rattle.bf_forest.specs.Goods.{IsGood, AreDealt, AreNeighbors, ArePartners, HasCopies, HasLinked, TileDomain};
+ghost use Rattle.bf_forest.specs.Goods.{IsGood, AreDealt, AreNeighbors, ArePartners, HasAgreed, HasCopies, HasLinked, TileDomain};
 ghost use Rattle.bf_forest.specs.Leaves.{AreLeaves, bare_blocks};
 ghost use Rattle.bf_forest.specs.Meanings.{forest, pieces};
 ghost use Rattle.bf_ghost.specs.Telling.{told_strips};
@@ -71,6 +72,7 @@ pub fn the_members_pieces_tile_the_domain()
 /// Good vectors are exactly these: in an epoch of the run, and by some owner of each block and some home of each block of the agreed
 /// snapshot, a member has the model's blocks of the ids that it owns, by rising id, and nothing that it heard. Of the agreed snapshot it
 /// has the blocks of which it is the home, and those of its predecessor; of the new one nothing before the last round is done.
+/// What the laws below say of an owner and a home holds of all by which locals are dealt, and so together.
 pub fn good_vectors_are_those_dealt()
     ensures { (setup : Setup) (epoch : Epoch) (round : ℕ) (locals : List ForestLocal) → (IsGood setup epoch round locals
         ↔ (Runs (case_of setup) epoch × (owner : BlockId → ℕ) × (home : BlockId → ℕ) × AreDealt (case_of setup) epoch round owner home locals)) }
@@ -78,27 +80,36 @@ pub fn good_vectors_are_those_dealt()
 
 /// A member's blocks are the model's leaves of the round's time that it owns, each linked with exactly the leaves that touch it and with
 /// their owners. Of the agreed snapshot it has those of which it is the home, and copies of those of the member whose buddy it is,
-/// linked with the leaves of the agreed time and their homes. Each home of a block, or its buddy, is a member.
+/// linked with the leaves of the agreed time and their homes.
 pub fn each_block_is_linked_with_the_leaves_that_touch_it()
-    ensures { (setup : Setup) (epoch : Epoch) (round : ℕ) (locals : List ForestLocal) → IsGood setup epoch round locals
-        → (owner : BlockId → ℕ) × (home : BlockId → ℕ) × AreDealt (case_of setup) epoch round owner home locals × All (HasLinked (case_of setup) epoch round owner home) locals }
+    ensures { (setup : Setup) (epoch : Epoch) (round : ℕ) (owner home : BlockId → ℕ) (locals : List ForestLocal)
+        → AreDealt (case_of setup) epoch round owner home locals → All (HasLinked (case_of setup) epoch round owner home) locals }
+{}
+
+/// The agreed snapshot is whole: each member has its own part, which is of exactly those leaves of the agreed map of which it is the home,
+/// by rising id, and a copy of exactly that of the home whose buddy it is; one that is its own buddy has no copy. Each leaf of that map
+/// has a home among the epoch's, and this or its buddy is a member.
+pub fn each_member_holds_its_parts_of_the_agreed_snapshot()
+    ensures parts { (setup : Setup) (epoch : Epoch) (round : ℕ) (owner home : BlockId → ℕ) (locals : List ForestLocal)
+        → AreDealt (case_of setup) epoch round owner home locals → All (HasAgreed (case_of setup) epoch home) locals }
+    ensures housed { (setup : Setup) (epoch : Epoch) (round : ℕ) (owner home : BlockId → ℕ) (locals : List ForestLocal) (leaf : BlockId)
+        → AreDealt (case_of setup) epoch round owner home locals → Contains (ids_of (model (case_of setup) epoch.time)) leaf
+        → Contains epoch.homes (home leaf) × (Contains epoch.members (home leaf) ⊎ Contains epoch.members (buddy_of epoch.homes (home leaf) (case_of setup).shift)) }
 {}
 
 /// In a step's round the peers of a member are the other members that own a leaf which touches one of its own.
 pub fn a_steps_peers_own_leaves_that_touch()
-    ensures { (setup : Setup) (epoch : Epoch) (round : ℕ) (locals : List ForestLocal) → IsGood setup epoch round locals → round < span epoch
-        → (owner : BlockId → ℕ) × (home : BlockId → ℕ) × AreDealt (case_of setup) epoch round owner home locals
-        × ((local : ForestLocal) (other : ℕ) → Contains locals local
-        → (Contains (forest.peers setup local epoch round) other ↔ (Contains epoch.members other × AreNeighbors (case_of setup) (time_at epoch round) owner local.rank other))) }
+    ensures { (setup : Setup) (epoch : Epoch) (round : ℕ) (owner home : BlockId → ℕ) (locals : List ForestLocal) (local : ForestLocal) (other : ℕ)
+        → AreDealt (case_of setup) epoch round owner home locals → round < span epoch → Contains locals local
+        → (Contains (forest.peers setup local epoch round) other ↔ (Contains epoch.members other × AreNeighbors (case_of setup) (time_at epoch round) owner local.rank other)) }
 {}
 
 /// And what it tells a rank are the strips of the model's leaves: one for each leaf of its own and each leaf of the other that share
 /// a face, by the ids of its own leaves and then of the other's, and nothing else.
 pub fn a_step_tells_what_lies_at_shared_faces()
-    ensures { (setup : Setup) (epoch : Epoch) (round : ℕ) (locals : List ForestLocal) → IsGood setup epoch round locals → round < span epoch
-        → (owner : BlockId → ℕ) × (home : BlockId → ℕ) × AreDealt (case_of setup) epoch round owner home locals
-        × ((local : ForestLocal) (to : ℕ) → Contains locals local
-        → (forest.out setup local epoch round to).1 ≡ Message.Step (told_strips (case_of setup).roots (model (case_of setup) (time_at epoch round)) owner local.rank to)) }
+    ensures { (setup : Setup) (epoch : Epoch) (round : ℕ) (owner home : BlockId → ℕ) (locals : List ForestLocal) (local : ForestLocal) (to : ℕ)
+        → AreDealt (case_of setup) epoch round owner home locals → round < span epoch → Contains locals local
+        → (forest.out setup local epoch round to).1 ≡ Message.Step (told_strips (case_of setup).roots (model (case_of setup) (time_at epoch round)) owner local.rank to) }
 {}
 
 /// In the snapshot's round the peers of a member are its buddy and the member whose buddy it is, other than itself.
@@ -118,9 +129,9 @@ pub fn a_snapshot_tells_the_buddy_all_blocks()
 /// After that round each block is at the same owner as before it, and each member has of the new snapshot, which is that of the epoch's
 /// target, its own blocks and copies of those of the member whose buddy it is. A lone member, which is its own buddy, has no copies.
 pub fn a_snapshot_leaves_copies_at_buddies()
-    ensures { (setup : Setup) (epoch : Epoch) (round : ℕ) (locals : List ForestLocal) → IsGood setup epoch round locals → round ≡ span epoch
-        → (owner : BlockId → ℕ) × (home : BlockId → ℕ) × AreDealt (case_of setup) epoch round owner home locals
-        × AreDealt (case_of setup) epoch (round + 1) owner home (next_locals forest setup epoch round locals)
+    ensures { (setup : Setup) (epoch : Epoch) (round : ℕ) (owner home : BlockId → ℕ) (locals : List ForestLocal) → Runs (case_of setup) epoch
+        → AreDealt (case_of setup) epoch round owner home locals → round ≡ span epoch
+        → AreDealt (case_of setup) epoch (round + 1) owner home (next_locals forest setup epoch round locals)
         × All (HasCopies (case_of setup).shift epoch (next_locals forest setup epoch round locals)) (next_locals forest setup epoch round locals) }
 {}
 
@@ -132,10 +143,9 @@ pub fn an_epoch_ends_at_the_model()
 
 /// After a commit each member goes on with the blocks that it has, and is their home in the new agreed snapshot.
 pub fn a_commit_makes_owners_homes()
-    ensures { (setup : Setup) (epoch : Epoch) (locals : List ForestLocal) → IsGood setup epoch (rounds_of forest_plan epoch) locals
-        → epoch.target < (case_of setup).steps
-        → (owner : BlockId → ℕ) × (home : BlockId → ℕ) × AreDealt (case_of setup) epoch (rounds_of forest_plan epoch) owner home locals
-        × AreDealt (case_of setup) (epoch_after_commit (case_of setup).steps (case_of setup).snapshot epoch) 0 owner owner (map forest.keep locals) }
+    ensures { (setup : Setup) (epoch : Epoch) (owner home : BlockId → ℕ) (locals : List ForestLocal) → Runs (case_of setup) epoch
+        → AreDealt (case_of setup) epoch (rounds_of forest_plan epoch) owner home locals → epoch.target < (case_of setup).steps
+        → AreDealt (case_of setup) (epoch_after_commit (case_of setup).steps (case_of setup).snapshot epoch) 0 owner owner (map forest.keep locals) }
 {}
 
 /// Where no part of the agreed snapshot is lost, a restore gives the live members its leaves, with their cells, each leaf
@@ -149,10 +159,10 @@ pub fn a_restore_rebuilds_the_agreed_map()
 /// And each live member goes on with exactly those blocks of the model whose home is itself or the dead home whose buddy
 /// it is, by rising id.
 pub fn a_restore_gives_heirs_their_blocks()
-    ensures { (setup : Setup) (epoch : Epoch) (round : ℕ) (locals : List ForestLocal) (lives : ℕ → Bool) → IsGood setup epoch round locals
+    ensures { (setup : Setup) (epoch : Epoch) (round : ℕ) (owner home : BlockId → ℕ) (locals : List ForestLocal) (lives : ℕ → Bool) → Runs (case_of setup) epoch
+        → AreDealt (case_of setup) epoch round owner home locals
         → first_lost_of epoch.homes (forest.stored locals) (filter lives epoch.members) (forest.shift setup) ≡ None
-        → (owner : BlockId → ℕ) × (home : BlockId → ℕ) × AreDealt (case_of setup) epoch round owner home locals
-        × AreDealt (case_of setup) (restored_epoch lives epoch) 0 (λ i. heir_of epoch.homes (filter lives epoch.members) (case_of setup).shift (home i)) home
+        → AreDealt (case_of setup) (restored_epoch lives epoch) 0 (λ i. heir_of epoch.homes (filter lives epoch.members) (case_of setup).shift (home i)) home
         (restored_locals forest setup epoch lives locals) }
 {}
 

@@ -2,4 +2,4 @@ use Rattle.bf_forest.specs.LeafLaws.{all_regained}
 use Rattle.bf_forest.proofs.laws.a_restore_gives_heirs_their_blocks.Goals as goal
 
 pub returns : goal.returns
-returns c = λ setup epoch round locals lives good whole. all_regained setup epoch round locals lives good whole
+returns c = all_regained
