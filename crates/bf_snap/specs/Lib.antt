@@ -1,0 +1,3 @@
+-- The two sides of a rank's snapshots, and what changes them.
+pub mod Buffers
+pub mod Changes
