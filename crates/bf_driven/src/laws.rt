@@ -1,6 +1,6 @@
 //! What comes of a case that is run by its ranks, each law the contract of a call that does nothing.
 ghost use Rattle.std.specs.Prelude.{◌≡◌, ◌⊎◌, ℕ, IsTrue, IsPermutation, List, [], Some, is_some, map};
-ghost use Rattle.std.specs.List.{list_any};
+ghost use Rattle.std.specs.List.{flat_map, list_any};
 ghost use Rattle.std.specs.List.Sorted.{IsNonDecreasingBy};
 ghost use Rattle.bf_case.specs.declared.case.Case.{Case};
 ghost use Rattle.bf_case.specs.Model.{model};
@@ -12,14 +12,15 @@ ghost use Rattle.bf_world.specs.Runs.{run_after, is_journal};
 ghost use Rattle.bf_world.specs.Worlds.{core_after};
 ghost use Rattle.bf_block.specs.Block.{BlockValue, leaf_of};
 ghost use Rattle.bf_forest.specs.Cases.{KeepsRoots};
+ghost use Rattle.bf_forest.specs.declared.local.ForestLocal.{ForestLocal};
 ghost use Rattle.bf_forest.specs.declared.setup.Setup.{Setup};
 ghost use Rattle.bf_forest.specs.Setup.{case_of};
-ghost use Rattle.bf_forest.specs.Leaves.{AreLeaves};
+ghost use Rattle.bf_forest.specs.Leaves.{AreLeaves, bare_blocks};
 ghost use Rattle.bf_forest.specs.Meanings.{forest};
 ghost use Rattle.bf_driven.specs.Parcels.{blocks_of};
 
 use bf_forest::Forest;
-use bf_forest::laws::some_home_has_a_block;
+use bf_forest::laws::{some_home_has_a_block, the_blocks_are_the_models_leaves};
 use bf_world::laws::{
     a_complete_run_has_an_end, a_complete_run_without_deaths_ends, a_finished_run_has_every_parcel,
     a_finished_run_is_at_its_end, each_epoch_begins_good, the_last_locals_are_good,
@@ -35,6 +36,17 @@ pub fn a_finished_run_has_the_leaves()
     a_finished_run_has_every_parcel::<Forest>();
     the_last_locals_are_good::<Forest>();
     a_finished_run_is_at_its_end::<Forest>();
+}
+
+/// Each epoch begins with the agreed snapshot as a whole, whether the opening, a commit or a restore began it: the blocks of its members
+/// are the leaves of the model's map at the agreed time, with its cells, each leaf once.
+pub fn each_epoch_begins_with_the_agreed_map()
+    ensures { (setup : Setup) (journal : List Event) → IsTrue (is_journal forest setup journal)
+        → AreLeaves (model (case_of setup) (core_after forest setup journal).epoch.time)
+        (flat_map (λ (local : ForestLocal). bare_blocks local.blocks) (run_after forest setup journal).start) }
+{
+    each_epoch_begins_good::<Forest>();
+    the_blocks_are_the_models_leaves();
 }
 
 /// Blocks that are the leaves of a map of the model, put in rising order of their roots, are the map.

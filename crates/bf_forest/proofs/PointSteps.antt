@@ -104,17 +104,17 @@ side_among c time homes home rank housed = (part_owned c time homes home rank ho
     at true = All-nil (IsOwnedAmong homes)
     at false = part_owned c time homes home (predecessor_of homes rank c.shift) housed
 
-restoring_among : (setup : Setup) (epoch : Epoch) (rank : ℕ) (local : ForestLocal) → IsRestoring forest IsGood setup epoch rank local → AreAmongHomes local.active
+restoring_among : (setup : Setup) (epoch : Epoch) (rank : ℕ) (local : ForestLocal) → IsRestoring forest IsGood setup epoch rank local → AreAmongHomes local.buffers.active
 unfolding IsGood
 restoring_among setup epoch rank local point =
     let at = told_its forest (telling_of forest forest_staging) setup (keeps setup) point.before point.round point.locals rank point.agreed point.is_good point.its in
-    subst AreAmongHomes (sym (point.same ∙ ap (λ (l : ForestLocal). l.active) at.1))
+    subst AreAmongHomes (sym (point.same ∙ ap (λ (l : ForestLocal). l.buffers.active) at.1))
     (side_among (case_of setup) point.before.time point.before.homes point.is_good.world.home rank point.is_good.fits.housed)
 
-pub own_among : (setup : Setup) (epoch : Epoch) (rank : ℕ) (local : ForestLocal) → IsRestoring forest IsGood setup epoch rank local → All (IsOwnedAmong local.active.homes) local.active.own
+pub own_among : (setup : Setup) (epoch : Epoch) (rank : ℕ) (local : ForestLocal) → IsRestoring forest IsGood setup epoch rank local → All (IsOwnedAmong local.buffers.active.homes) local.buffers.active.own
 own_among setup epoch rank local point = (restoring_among setup epoch rank local point).0
 
-pub other_among : (setup : Setup) (epoch : Epoch) (rank : ℕ) (local : ForestLocal) → IsRestoring forest IsGood setup epoch rank local → All (IsOwnedAmong local.active.homes) local.active.other
+pub other_among : (setup : Setup) (epoch : Epoch) (rank : ℕ) (local : ForestLocal) → IsRestoring forest IsGood setup epoch rank local → All (IsOwnedAmong local.buffers.active.homes) local.buffers.active.other
 other_among setup epoch rank local point = (restoring_among setup epoch rank local point).1
 
 -- a rank that has heard all its neighbours of a time is ready to step its blocks

@@ -13,6 +13,7 @@ use Rattle.bf_case.specs.Model.{model}
 use Rattle.bf_forest.specs.declared.setup.Setup.{Setup}
 use Rattle.bf_links.specs.declared.link.Link.{Link}
 use Rattle.bf_links.specs.Links.{IsLinkOf}
+use Rattle.bf_parts.specs.declared.side.Side.{Side}
 use Rattle.bf_parts.specs.Leaves.{AreAmong, is_filled, part_of, side_at}
 use Rattle.bf_parts.specs.Sides.{bare}
 use Rattle.bf_parts.specs.Views.{IsHeld}
@@ -37,8 +38,10 @@ local_at c epoch round owner home rank = record {
   rank = rank;
   blocks = part_of (blocks_at c (time_at epoch round)) owner rank;
   heard = [];
-  active = side_at epoch.time epoch.homes c.shift (blocks_at c epoch.time) home rank;
-  spare = if nat_lt round (rounds_of forest_plan epoch) then bare else side_at epoch.target epoch.members c.shift (blocks_at c epoch.target) owner rank;
+  buffers = record {
+    active = side_at epoch.time epoch.homes c.shift (blocks_at c epoch.time) home rank;
+    spare = if nat_lt round (rounds_of forest_plan epoch) then bare else side_at epoch.target epoch.members c.shift (blocks_at c epoch.target) owner rank;
+  };
 }
 
 -- the model's ids rise, each leaf has an owner among the members, and each of the agreed snapshot its home, of which or of whose buddy some member goes on; and
@@ -60,8 +63,8 @@ pub record IsLinkedBlock (c : Case) (time : ℕ) (owner : BlockId → ℕ) (rank
 -- what a member has: its blocks, and of the agreed snapshot those of which it is the home and the copies of those of the member whose buddy it is, all linked
 pub record HasLinked (c : Case) (epoch : Epoch) (round : ℕ) (owner home : BlockId → ℕ) (local : ForestLocal) : Type 0 where
   pub blocks : All (IsLinkedBlock c (time_at epoch round) owner local.rank) local.blocks
-  pub own : All (IsLinkedBlock c epoch.time home local.rank) local.active.own
-  pub other : All (IsLinkedBlock c epoch.time home local.active.source) local.active.other
+  pub own : All (IsLinkedBlock c epoch.time home local.rank) local.buffers.active.own
+  pub other : All (IsLinkedBlock c epoch.time home local.buffers.active.source) local.buffers.active.other
 
 -- two ranks are neighbours: a leaf of the one touches a leaf of the other
 pub record AreNeighbors (c : Case) (time : ℕ) (owner : BlockId → ℕ) (rank other : ℕ) : Type 0 where
@@ -87,25 +90,29 @@ pub record ArePartners (members : List ℕ) (shift rank other : ℕ) : Type 0 wh
 
 -- what a member, among all, has of the new snapshot: its own blocks, and copies of those of the member whose buddy it is; one that is its own buddy has no copies
 pub record HasCopies (shift : ℕ) (epoch : Epoch) (locals : List ForestLocal) (local : ForestLocal) : Type 0 where
-  pub time : local.spare.time ≡ epoch.target
-  pub homes : local.spare.homes ≡ epoch.members
-  pub own : local.spare.own ≡ local.blocks
-  pub source : buddy_of epoch.members local.spare.source shift ≡ local.rank
-  pub copied : (from : ForestLocal) → Contains locals from → from.rank ≡ local.spare.source → from.rank ≢ local.rank → local.spare.other ≡ from.blocks
-  pub alone : local.spare.source ≡ local.rank → local.spare.other ≡ []
+  pub time : local.buffers.spare.time ≡ epoch.target
+  pub homes : local.buffers.spare.homes ≡ epoch.members
+  pub own : local.buffers.spare.own ≡ local.blocks
+  pub source : buddy_of epoch.members local.buffers.spare.source shift ≡ local.rank
+  pub copied : (from : ForestLocal) → Contains locals from → from.rank ≡ local.buffers.spare.source → from.rank ≢ local.rank → local.buffers.spare.other ≡ from.blocks
+  pub alone : local.buffers.spare.source ≡ local.rank → local.buffers.spare.other ≡ []
 
 -- a rank's part of a time's map: of exactly those leaves that it owns, in the map's order, the model's blocks, linked with the leaves that touch them
 pub record IsPart (c : Case) (time : ℕ) (owner : BlockId → ℕ) (rank : ℕ) (blocks : List LinkedBlock) : Type 0 where
   pub ids : map (λ (b : LinkedBlock). b.block.id) blocks ≡ filter (λ i. owner i == rank) (ids_of (model c time))
   pub linked : All (IsLinkedBlock c time owner rank) blocks
 
--- what a member has of the agreed snapshot: its own part, and a copy of that of the home whose buddy it is; one that is its own buddy has no copy
-pub record HasAgreed (c : Case) (epoch : Epoch) (home : BlockId → ℕ) (local : ForestLocal) : Type 0 where
-  pub time : local.active.time ≡ epoch.time
-  pub homes : local.active.homes ≡ epoch.homes
-  pub rank_home : Contains epoch.homes local.rank
-  pub source_home : Contains epoch.homes local.active.source
-  pub source : buddy_of epoch.homes local.active.source c.shift ≡ local.rank
-  pub own : IsPart c epoch.time home local.rank local.active.own
-  pub copied : local.active.source ≢ local.rank → IsPart c epoch.time home local.active.source local.active.other
-  pub alone : local.active.source ≡ local.rank → local.active.other ≡ []
+-- what a rank's side has of a snapshot: the rank's own part, and a copy of that of the home whose buddy it is; one that is its own buddy has no copy
+pub record HasParts (c : Case) (time : ℕ) (homes : List ℕ) (home : BlockId → ℕ) (rank : ℕ) (side : Side LinkedBlock) : Type 0 where
+  pub its_time : side.time ≡ time
+  pub its_homes : side.homes ≡ homes
+  pub rank_home : Contains homes rank
+  pub source_home : Contains homes side.source
+  pub source : buddy_of homes side.source c.shift ≡ rank
+  pub own : IsPart c time home rank side.own
+  pub copied : side.source ≢ rank → IsPart c time home side.source side.other
+  pub alone : side.source ≡ rank → side.other ≡ []
+
+-- what a member has of the agreed snapshot
+abbrev pub HasAgreed : Case → Epoch → (home : BlockId → ℕ) → ForestLocal → Type 0
+HasAgreed c epoch home local = HasParts c epoch.time epoch.homes home local.rank local.buffers.active

@@ -76,7 +76,11 @@ told_is setup epoch round world runs rank =
   where
     at : (b : Bool) → local_with (view_at (case_of setup).shift epoch (not b)
         (record { now = blocks_at (case_of setup) (time_at epoch round); agreed = blocks_at (case_of setup) epoch.time; new = blocks_at (case_of setup) epoch.target }) world.owner world.home rank) []
-        ≡ record (local_at (case_of setup) epoch round world.owner world.home rank) { spare = cond b bare (side_at epoch.target epoch.members (case_of setup).shift (blocks_at (case_of setup) epoch.target) world.owner rank) }
+        ≡ record (local_at (case_of setup) epoch round world.owner world.home rank) {
+          buffers = record (local_at (case_of setup) epoch round world.owner world.home rank).buffers {
+            spare = cond b bare (side_at epoch.target epoch.members (case_of setup).shift (blocks_at (case_of setup) epoch.target) world.owner rank);
+          };
+        }
     at true = refl
     at false = refl
 

@@ -20,10 +20,10 @@ part_in (SnapshotMessage part) = part
 
 -- a local but for what it has heard, and the local of that and of what it has heard
 abbrev pub view_in : ForestLocal → View LinkedBlock
-view_in local = record { rank = local.rank; items = local.blocks; active = local.active; spare = local.spare }
+view_in local = record { rank = local.rank; items = local.blocks; active = local.buffers.active; spare = local.buffers.spare }
 
 abbrev pub local_with : View LinkedBlock → (heard : List StripValue) → ForestLocal
-local_with view heard = record { rank = view.rank; blocks = view.items; heard = heard; active = view.active; spare = view.spare }
+local_with view heard = record { rank = view.rank; blocks = view.items; heard = heard; buffers = record { active = view.active; spare = view.spare } }
 
 -- the blocks at hand: a rank's own, and the strips that it has heard
 abbrev pub hand_in : ForestLocal → Hand (List StripValue) LinkedBlock

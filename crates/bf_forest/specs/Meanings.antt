@@ -14,6 +14,7 @@ use Rattle.bf_parts.specs.Leaves.{part_of, side_at}
 use Rattle.bf_parts.specs.Sides.{bare, has_items, saved_of, is_given}
 use Rattle.bf_parts.specs.Spreads.{restored_view}
 use Rattle.bf_parts.specs.Views.{stored_of}
+use Rattle.bf_snap.specs.Buffers.{swapped}
 use Rattle.bf_stages.specs.Plans.{rounds_of, stage_of}
 use Rattle.bf_msg.specs.declared.linked_block.LinkedBlock.{LinkedBlock}
 use Rattle.bf_msg.specs.declared.message.Message.{Message}
@@ -32,8 +33,7 @@ opened c rank = record {
   rank = rank;
   blocks = part_of (blocks_at c 0) (first_home c) rank;
   heard = [];
-  active = side_at 0 (range_with_len 0 c.ranks) c.shift (blocks_at c 0) (first_home c) rank;
-  spare = bare;
+  buffers = record { active = side_at 0 (range_with_len 0 c.ranks) c.shift (blocks_at c 0) (first_home c) rank; spare = bare };
 }
 
 abbrev pub forest : Meanings Setup ForestLocal Message (List LinkedBlock) (Side LinkedBlock)
@@ -48,15 +48,15 @@ forest = record {
   out = λ setup local epoch round to. (play_of (case_of setup) epoch (stage_of forest_plan epoch round)).out local to;
   take = λ setup local epoch round peer msg. (play_of (case_of setup) epoch (stage_of forest_plan epoch round)).hear local peer msg;
   finish = λ setup local epoch round. (play_of (case_of setup) epoch (stage_of forest_plan epoch round)).finish local;
-  filled = λ local. has_items local.spare.own;
+  filled = λ local. has_items local.buffers.spare.own;
   parcel = λ local. (record local { blocks = [] }, local.blocks);
-  keep = λ local. record local { active = local.spare; spare = bare };
-  restore = λ setup local rank epoch. local_with (restored_view linked_kind (case_of setup).shift local.active rank epoch.members) [];
+  keep = λ local. record local { buffers = swapped local.buffers };
+  restore = λ setup local rank epoch. local_with (restored_view linked_kind (case_of setup).shift local.buffers.active rank epoch.members) [];
   measure = measured;
   opening = λ setup. map (opened (case_of setup)) (range_with_len 0 (case_of setup).ranks);
   laid = λ setup. filter (starts (case_of setup)) (range_with_len 0 (case_of setup).ranks);
   stored = stored_of view_in;
-  reads = λ local. local.active;
+  reads = λ local. local.buffers.active;
   given = λ setup side rank epoch. filter (is_given side rank epoch.members) side.homes;
 }
 

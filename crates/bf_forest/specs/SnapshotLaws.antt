@@ -28,16 +28,18 @@ use Rattle.bf_forest.specs.declared.local.ForestLocal.{ForestLocal}
 use Rattle.bf_forest.specs.declared.setup.Setup.{Setup}
 use Rattle.bf_forest.specs.declared.stage.Stage.{Stage}
 use Rattle.bf_forest.specs.ForestLaws.{staged, whole_span}
-use Rattle.bf_forest.specs.Goods.{AreDealt, ArePartners, HasCopies, IsGood, local_at}
+use Rattle.bf_forest.specs.Goods.{AreDealt, ArePartners, HasCopies, HasParts, IsGood, local_at}
 use Rattle.bf_forest.specs.LeafLaws.{ForestWorld, Placed, all_dealt, dealt, placed_where_dealt, told_where_dealt, world_of}
 use Rattle.bf_forest.specs.Meanings.{forest, pieces}
 use Rattle.bf_forest.specs.ModelBlocks.{blocks_at}
 use Rattle.bf_forest.specs.RoundLaws.{has_stages}
 use Rattle.bf_forest.specs.Rounds.{play_of}
-use Rattle.bf_forest.specs.Setup.{case_of}
+use Rattle.bf_forest.specs.Cases.{KeepsRoots}
+use Rattle.bf_forest.specs.Setup.{case_of, every_setup_keeps_roots}
 use Rattle.bf_forest.specs.StageLaws.{rounds_are, stage_snapshot, time_end}
 use Rattle.bf_forest.specs.Stages.{forest_plan}
 use Rattle.bf_forest.specs.Staging.{forest_staging, Runs}
+use Rattle.bf_forest.specs.VectorLaws.{parts_at}
 
 -- PEERS
 partners_decide : (members : List ℕ) (shift rank other : ℕ) → Decides (are_paired members shift rank other) (ArePartners members shift rank other)
@@ -103,7 +105,7 @@ module _ (c : Case) (epoch : Epoch) (round : ℕ) (owner home : BlockId → ℕ)
   its : (local : ForestLocal) → Contains locals local → (rank : ℕ) × Contains epoch.members rank × (local ≡ local_at c epoch round owner home rank)
   its local there = Contains-map_cases (local_at c epoch round owner home) epoch.members local (subst (λ (ls : List ForestLocal). Contains ls local) dealt.are there)
 
-  spare_at : (rank : ℕ) → (local_at c epoch round owner home rank).spare ≡ side_at epoch.target epoch.members c.shift (blocks_at c epoch.target) owner rank
+  spare_at : (rank : ℕ) → (local_at c epoch round owner home rank).buffers.spare ≡ side_at epoch.target epoch.members c.shift (blocks_at c epoch.target) owner rank
   spare_at rank = ap (λ b. cond b bare (side_at epoch.target epoch.members c.shift (blocks_at c epoch.target) owner rank)) past
     where
       past : nat_lt round (rounds_of forest_plan epoch) ≡ false
@@ -138,6 +140,24 @@ module _ (c : Case) (epoch : Epoch) (round : ℕ) (owner home : BlockId → ℕ)
       let is = its local there in
       subst (HasCopies c.shift epoch locals) (sym is.2)
       (copies_at is.0 (any_from_passes (λ member. member == is.0) epoch.members is.0 is.1 (eq-eqb is.0 is.0 refl))))
+
+  -- its parts of the new snapshot
+  abbrev HasNew : ForestLocal → Type 0
+  HasNew local = HasParts c epoch.target epoch.members owner local.rank local.buffers.spare
+
+  all_new : KeepsRoots c → All HasNew locals
+  all_new runs = All-from_Contains HasNew locals (λ local there.
+      let is = its local there in
+      let member : is_member epoch.members is.0 ≡ true = any_from_passes (λ member. member == is.0) epoch.members is.0 is.1 (eq-eqb is.0 is.0 refl) in
+      subst HasNew (sym is.2)
+      (subst (HasParts c epoch.target epoch.members owner is.0) (sym (spare_at is.0))
+      (parts_at c epoch.target epoch.members owner is.0 runs dealt.held.members_rise member)))
+
+pub all_have_new : (setup : Setup) (epoch : Epoch) (owner home : BlockId → ℕ) (locals : List ForestLocal) → Runs (case_of setup) epoch
+    → AreDealt (case_of setup) epoch (rounds_of forest_plan epoch) owner home locals
+    → All (λ (local : ForestLocal). HasParts (case_of setup) epoch.target epoch.members owner local.rank local.buffers.spare) locals
+all_have_new setup epoch owner home locals runs are_dealt =
+    all_new (case_of setup) epoch (rounds_of forest_plan epoch) owner home locals are_dealt (whole_span setup epoch runs) refl (every_setup_keeps_roots setup)
 
 -- so have all after the round, in which nobody's blocks move
 pub all_copied_after : (setup : Setup) (epoch : Epoch) (round : ℕ) (owner home : BlockId → ℕ) (locals : List ForestLocal) → Runs (case_of setup) epoch

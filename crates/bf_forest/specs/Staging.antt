@@ -54,8 +54,7 @@ local_of_hand c epoch world rank hand = record {
   rank = hand.rank;
   blocks = hand.items;
   heard = hand.known;
-  active = side_at epoch.time epoch.homes c.shift (blocks_at c epoch.time) world.home rank;
-  spare = bare;
+  buffers = record { active = side_at epoch.time epoch.homes c.shift (blocks_at c epoch.time) world.home rank; spare = bare };
 }
 
 -- the courses of the rounds

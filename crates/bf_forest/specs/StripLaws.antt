@@ -6,13 +6,14 @@ use Rattle.std.proofs.lemmas.Grind.{flat_map-append}
 use Rattle.std.proofs.lemmas.List.{append-nil, map-id}
 use Rattle.std.proofs.lemmas.List.Folds.{flat_map-map}
 use Rattle.std.proofs.lemmas.Bool.{and_from, cases_Bool, eqb-true, eq-eqb}
-use Rattle.std.proofs.lemmas.List.Elements.{All-contains, filter-append, Contains-append_left, Contains-append_right}
+use Rattle.std.proofs.lemmas.List.Elements.{All-contains, All-contains_itself, filter-append, Contains-append_left, Contains-append_right}
 use Rattle.bf_lemmas.proofs.Lists.{All-from_Contains, filter_mapped, map_twice}
 use Rattle.bf_buddy.specs.Members.{is_member}
+use Rattle.bf_buddy.proofs.MemberLemmas.{all_member}
 use Rattle.bf_face.specs.declared.face.Face.{Face}
 use Rattle.bf_id.specs.Face.{SharesFace}
 use Rattle.bf_id.specs.Id.{BlockId, box_of, id_eq, touches}
-use Rattle.bf_id.proofs.Tilings.{Contains-head, Contains-tail}
+use Rattle.bf_id.proofs.Tilings.{Contains-head}
 use Rattle.bf_cells.specs.Grid.{Grid}
 use Rattle.bf_case.specs.declared.case.Case.{Case}
 use Rattle.bf_case.specs.Halves.{ShareFace}
@@ -43,12 +44,7 @@ filter_flat_map test f [] = refl
 filter_flat_map {Y = Y} test f (x ∷ xs) = filter-append test (f x) (flat_map f xs) ∙ ap (λ (ys : List Y). filter test (f x) ++ ys) (filter_flat_map test f xs)
 
 pub member_contains : (ranks : List ℕ) (rank : ℕ) → is_member ranks rank ≡ true → Contains ranks rank
-member_contains [] rank is_in = absurd (cc)
-member_contains (first ∷ ranks) rank is_in = at (member_contains ranks rank) (first == rank) refl is_in
-  where
-    at : (is_member ranks rank ≡ true → Contains ranks rank) → (b : Bool) → (first == rank) ≡ b → (b || is_member ranks rank) ≡ true → Contains (first ∷ ranks) rank
-    at later true same here = let e : first ≡ rank = eqb-true first rank same in rw (sym e) (Contains-head first ranks)
-    at later false differs there = Contains-tail first ranks rank (later there)
+member_contains ranks rank is_in = all_member (Contains ranks) ranks rank (All-contains_itself ranks) is_in
 
 -- what a rank has heard from its neighbours, and that with what it tells itself
 abbrev pub heard : (c : Case) → (time : ℕ) → (owner : BlockId → ℕ) → (members : List ℕ) → (rank : ℕ) → List StripValue

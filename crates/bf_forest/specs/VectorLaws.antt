@@ -3,13 +3,13 @@ use Rattle.std.proofs.Common.{◌≡◌, ℕ, ◌<◌, Bool, true, false, cond, 
 use Rattle.std.specs.Prelude.{◌==◌, ◌&&◌, ◌↔◌, not}
 use Rattle.std.specs.List.{list_any}
 use Rattle.std.proofs.lemmas.Bool.{and_from, and_parts, or_cases, eq-eqb, eqb-true, false_from_ne_true}
+use Rattle.std.specs.List.Sorted.{IsStrictlyIncreasing}
 use Rattle.std.proofs.lemmas.List.{map-id}
-use Rattle.std.proofs.lemmas.List.Elements.{All-nil, All-contains, All-contains_itself}
+use Rattle.std.proofs.lemmas.List.Elements.{All-nil, All-contains}
 use Rattle.bf_lemmas.proofs.Lists.{All-from_Contains, map_twice}
 use Rattle.bf_buddy.specs.Buddy.{buddy_of, predecessor_of}
 use Rattle.bf_buddy.specs.Members.{is_member}
 use Rattle.bf_buddy.proofs.LawLemmas.{buddy_undoes}
-use Rattle.bf_buddy.proofs.MemberLemmas.{all_member}
 use Rattle.bf_id.specs.Id.{BlockId, touches}
 use Rattle.bf_case.specs.declared.case.Case.{Case}
 use Rattle.bf_case.specs.Map.{ids_of}
@@ -21,7 +21,7 @@ use Rattle.bf_links.specs.Links.{is_owner, links_of, IsLinkOf}
 use Rattle.bf_links.proofs.LinkLemmas.{links_exact}
 use Rattle.bf_ghost.specs.Strips.{StripValue}
 use Rattle.bf_ghost.specs.Telling.{told_strips}
-use Rattle.bf_parts.specs.Leaves.{copy_at, is_filled, part_of}
+use Rattle.bf_parts.specs.Leaves.{copy_at, is_filled, part_of, side_at}
 use Rattle.bf_parts.specs.SideLaws.{predecessor_member}
 use Rattle.bf_program.specs.declared.epoch.Epoch.{Epoch}
 use Rattle.bf_stages.specs.Plans.{span}
@@ -33,14 +33,14 @@ use Rattle.bf_forest.specs.declared.stage.Stage.{Stage}
 use Rattle.bf_forest.specs.Setup.{case_of, every_setup_keeps_roots}
 use Rattle.bf_forest.specs.BlockLaws.{block_is, part_each}
 use Rattle.bf_forest.specs.Cases.{KeepsRoots}
-use Rattle.bf_forest.specs.Goods.{local_at, AreDealt, AreNeighbors, HasAgreed, HasLinked, IsLinkedBlock, IsPart}
+use Rattle.bf_forest.specs.Goods.{local_at, AreDealt, AreNeighbors, HasAgreed, HasLinked, HasParts, IsLinkedBlock, IsPart}
 use Rattle.bf_forest.specs.Meanings.{forest}
 use Rattle.bf_forest.specs.ModelBlocks.{blocks_at, linked_at}
 use Rattle.bf_forest.specs.NeighborLaws.{linked_is}
 use Rattle.bf_forest.specs.Rounds.{is_linked, is_neighbor, play_of, strips_to}
 use Rattle.bf_forest.specs.StageLaws.{stage_step}
 use Rattle.bf_forest.specs.Stages.{time_at}
-use Rattle.bf_forest.specs.StripLaws.{part_tells}
+use Rattle.bf_forest.specs.StripLaws.{member_contains, part_tells}
 
 -- LINKS
 part_linked : (c : Case) (time : ℕ) (owner : BlockId → ℕ) (rank : ℕ) → KeepsRoots c → All (IsLinkedBlock c time owner rank) (part_of (blocks_at c time) owner rank)
@@ -88,25 +88,22 @@ part_is c time owner rank runs =
       linked = part_linked c time owner rank runs;
     }
 
-contains_member : (members : List ℕ) (rank : ℕ) → is_member members rank ≡ true → Contains members rank
-contains_member members rank is_in = all_member (Contains members) members rank (All-contains_itself members) is_in
-
-local_agreed : (c : Case) (epoch : Epoch) (round : ℕ) (owner home : BlockId → ℕ) (locals : List ForestLocal) (rank : ℕ) → KeepsRoots c → AreDealt c epoch round owner home locals
-    → is_member epoch.members rank ≡ true → HasAgreed c epoch home (local_at c epoch round owner home rank)
-local_agreed c epoch round owner home locals rank runs dealt member =
-    let source : ℕ = predecessor_of epoch.homes rank c.shift in
-    let is_home : is_member epoch.homes rank ≡ true = dealt.held.among rank member in
-    let part : ℕ → List LinkedBlock = part_of (blocks_at c epoch.time) home in
+-- a home's side of a snapshot has its parts
+pub parts_at : (c : Case) (time : ℕ) (homes : List ℕ) (home : BlockId → ℕ) (rank : ℕ) → KeepsRoots c → IsStrictlyIncreasing homes → is_member homes rank ≡ true
+    → HasParts c time homes home rank (side_at time homes c.shift (blocks_at c time) home rank)
+parts_at c time homes home rank runs rise is_home =
+    let source : ℕ = predecessor_of homes rank c.shift in
+    let part : ℕ → List LinkedBlock = part_of (blocks_at c time) home in
     record {
-      time = refl;
-      homes = refl;
-      rank_home = contains_member epoch.homes rank is_home;
-      source_home = contains_member epoch.homes source (predecessor_member epoch.homes rank c.shift dealt.held.homes_rise is_home);
-      source = buddy_undoes epoch.homes rank c.shift dealt.held.homes_rise is_home;
-      own = part_is c epoch.time home rank runs;
+      its_time = refl;
+      its_homes = refl;
+      rank_home = member_contains homes rank is_home;
+      source_home = member_contains homes source (predecessor_member homes rank c.shift rise is_home);
+      source = buddy_undoes homes rank c.shift rise is_home;
+      own = part_is c time home rank runs;
       copied = λ apart.
-          subst (IsPart c epoch.time home source) (sym (ap (λ b. cond b [] (part source)) (false_from_ne_true (source == rank) (λ same. apart (eqb-true source rank same)))))
-          (part_is c epoch.time home source runs);
+          subst (IsPart c time home source) (sym (ap (λ b. cond b [] (part source)) (false_from_ne_true (source == rank) (λ same. apart (eqb-true source rank same)))))
+          (part_is c time home source runs);
       alone = λ own. ap (λ b. cond b [] (part source)) (eq-eqb source rank own);
     }
 
@@ -117,8 +114,8 @@ all_agreed setup epoch round owner home locals dealt =
     All-from_Contains (HasAgreed c epoch home) locals (λ local there.
     let is = local_is c epoch round owner home locals local dealt there in
     subst (HasAgreed c epoch home) (sym is.2)
-    (local_agreed c epoch round owner home locals is.0 (every_setup_keeps_roots setup) dealt
-    (any_from_passes (λ member. member == is.0) epoch.members is.0 is.1 (eq-eqb is.0 is.0 refl))))
+    (parts_at c epoch.time epoch.homes home is.0 (every_setup_keeps_roots setup) dealt.held.homes_rise
+    (dealt.held.among is.0 (any_from_passes (λ member. member == is.0) epoch.members is.0 is.1 (eq-eqb is.0 is.0 refl)))))
 
 -- each leaf has a home, and that or its buddy is a member
 pub all_housed : (setup : Setup) (epoch : Epoch) (round : ℕ) (owner home : BlockId → ℕ) (locals : List ForestLocal) (leaf : BlockId) → AreDealt (case_of setup) epoch round owner home locals
@@ -131,10 +128,10 @@ all_housed setup epoch round owner home locals leaf dealt there =
     let buddy : ℕ = buddy_of epoch.homes (home leaf) c.shift in
     let is_home : is_member epoch.homes (home leaf) ≡ true = All-contains (λ i. is_member epoch.homes (home i) ≡ true) ids leaf dealt.housed there in
     let filled : list_any (λ i. home i == home leaf) ids ≡ true = any_from_passes (λ i. home i == home leaf) ids leaf there (eq-eqb (home leaf) (home leaf) refl) in (
-      contains_member epoch.homes (home leaf) is_home,
+      member_contains epoch.homes (home leaf) is_home,
       elim (or_cases (is_member epoch.members (home leaf)) (is_member epoch.members buddy) (dealt.held.safe (home leaf) is_home filled)) [
-        | inl itself ↦ inl (contains_member epoch.members (home leaf) itself)
-        | inr other ↦ inr (contains_member epoch.members buddy other)
+        | inl itself ↦ inl (member_contains epoch.members (home leaf) itself)
+        | inr other ↦ inr (member_contains epoch.members buddy other)
       ],
     )
 

@@ -102,7 +102,7 @@ pub fn hear(
         Stage::Step { .. } => append(&mut local.heard, strips_in(alloc, msg)),
         Stage::Snapshot => {
             if let Some(part) = part_in(msg) {
-                local.spare.other = part;
+                local.buffers.hear_other(part);
             }
             Ok(())
         }
@@ -114,10 +114,11 @@ pub fn hear(
 fn snap(alloc: Global, setup: &Setup, epoch: Epoch, local: &mut ForestLocal) -> Result<(), Memory>
     ensures { OnOk result (local.new ≡ (play_of (case_of setup.now) epoch Stage.Snapshot).finish local.old) }
 {
-    local.spare.own = copies(alloc, local.blocks.as_slice())?;
-    local.spare.time = epoch.target;
-    local.spare.source = source_of(epoch.members, setup.shift(), local.rank);
-    local.spare.homes = epoch.members;
+    let own = copies(alloc, local.blocks.as_slice())?;
+    let source = source_of(epoch.members, setup.shift(), local.rank);
+    local
+        .buffers
+        .write_spare(epoch.target, epoch.members, source, own);
     Ok(())
 }
 

@@ -19,7 +19,7 @@ ghost use Rattle.bf_forest.specs.declared.setup.Setup.{Setup};
 ghost use Rattle.bf_forest.specs.Setup.{case_of};
 ghost use Rattle.bf_forest.specs.declared.local.ForestLocal.{ForestLocal};
 ghost use Rattle.bf_msg.specs.declared.message.Message.{Message};
-ghost use Rattle.bf_forest.specs.Goods.{IsGood, AreDealt, AreNeighbors, ArePartners, HasAgreed, HasCopies, HasLinked, TileDomain};
+ghost use Rattle.bf_forest.specs.Goods.{IsGood, AreDealt, AreNeighbors, ArePartners, HasAgreed, HasCopies, HasLinked, HasParts, TileDomain};
 ghost use Rattle.bf_forest.specs.Leaves.{AreLeaves, bare_blocks};
 ghost use Rattle.bf_forest.specs.Meanings.{forest, pieces};
 ghost use Rattle.bf_ghost.specs.Telling.{told_strips};
@@ -95,6 +95,13 @@ pub fn each_member_holds_its_parts_of_the_agreed_snapshot()
     ensures housed { (setup : Setup) (epoch : Epoch) (round : ℕ) (owner home : BlockId → ℕ) (locals : List ForestLocal) (leaf : BlockId)
         → AreDealt (case_of setup) epoch round owner home locals → Contains (ids_of (model (case_of setup) epoch.time)) leaf
         → Contains epoch.homes (home leaf) × (Contains epoch.members (home leaf) ⊎ Contains epoch.members (buddy_of epoch.homes (home leaf) (case_of setup).shift)) }
+{}
+
+/// Once all rounds are done, each member has its parts of the new snapshot likewise: by owners, which are its homes.
+pub fn each_member_holds_its_parts_of_the_new_snapshot()
+    ensures { (setup : Setup) (epoch : Epoch) (owner home : BlockId → ℕ) (locals : List ForestLocal) → Runs (case_of setup) epoch
+        → AreDealt (case_of setup) epoch (rounds_of forest_plan epoch) owner home locals
+        → All (λ (local : ForestLocal). HasParts (case_of setup) epoch.target epoch.members owner local.rank local.buffers.spare) locals }
 {}
 
 /// In a step's round the peers of a member are the other members that own a leaf which touches one of its own.

@@ -1,7 +1,7 @@
 use bf_ghost::Strip;
 use bf_items::Items;
 use bf_msg::LinkedBlock;
-use bf_parts::Side;
+use bf_snap::Buffers;
 
 /// What one rank holds.
 #[derive(Drop)]
@@ -11,8 +11,6 @@ pub struct ForestLocal {
     pub(crate) blocks: Items<LinkedBlock>,
     /// What its blocks were told in this step by those of other ranks.
     pub(crate) heard: Items<Strip>,
-    /// The agreed snapshot.
-    pub(crate) active: Side<LinkedBlock>,
-    /// The new snapshot, from its round on.
-    pub(crate) spare: Side<LinkedBlock>,
+    /// The agreed snapshot, and from its round on the new one.
+    pub(crate) buffers: Buffers<LinkedBlock>,
 }

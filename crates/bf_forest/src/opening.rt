@@ -16,6 +16,7 @@ use bf_items::Items;
 use bf_links::Links;
 use bf_msg::{LinkedBlock, copies};
 use bf_parts::Side;
+use bf_snap::Buffers;
 use std::alloc::Global;
 
 // The rank at which each root begins.
@@ -134,7 +135,7 @@ fn unfilled(
 {
     let homes = Members::all(setup.ranks());
     let source = homes.predecessor(rank, setup.shift());
-    let active = Side {
+    let agreed = Side {
         time: 0,
         homes,
         source,
@@ -145,8 +146,7 @@ fn unfilled(
         rank,
         blocks: Items::new(alloc),
         heard: Items::new(alloc),
-        active,
-        spare: Side::bare(alloc),
+        buffers: Buffers::first(alloc, agreed),
     })
 }
 

@@ -5,10 +5,8 @@ use crate::{ForestLocal, Setup};
 use bf_buddy::Members;
 use bf_items::Items;
 use bf_msg::{LinkedBlock, Message};
-use bf_parts::regained;
 use bf_program::{Epoch, Measure, Memory, RankProgram, target_of};
 use std::alloc::Global;
-use std::mem;
 
 /// The ranks of the block forest.
 pub struct Forest;
@@ -115,7 +113,7 @@ impl RankProgram for Forest {
     }
 
     fn filled(local: &ForestLocal) -> bool {
-        local.spare.own.len() != 0
+        local.buffers.is_filled()
     }
 
     fn parcel(local: &mut ForestLocal) -> Items<LinkedBlock> {
@@ -123,8 +121,7 @@ impl RankProgram for Forest {
     }
 
     fn keep(local: &mut ForestLocal) {
-        mem::swap(&mut local.active, &mut local.spare);
-        local.spare.clear();
+        local.buffers.swap();
     }
 
     fn restore(
@@ -134,10 +131,10 @@ impl RankProgram for Forest {
         rank: u32,
         epoch: Epoch,
     ) -> Result<(), Memory> {
-        local.blocks = regained(alloc, &local.active, epoch.members, setup.shift())?;
+        local.blocks = local.buffers.restore(alloc, epoch.members, setup.shift())?;
         local.rank = rank;
         local.heard.clear();
-        local.spare.clear();
+        local.buffers.clear_spare();
         Ok(())
     }
 

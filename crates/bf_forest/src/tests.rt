@@ -94,10 +94,10 @@ fn expect_one_of_two(rt: &impl Abort, local: &ForestLocal, rank: u32, value: u32
         };
         assert_eq!(rt; linked.links.as_slice(), [link].as_slice());
     }
-    assert_eq!(rt; local.active.own.len(), 1);
-    assert_eq!(rt; local.active.other.len(), 1);
-    assert_eq!(rt; local.active.source, other);
-    assert_eq!(rt; local.spare.own.len(), 0);
+    assert_eq!(rt; local.buffers.active().own.len(), 1);
+    assert_eq!(rt; local.buffers.active().other.len(), 1);
+    assert_eq!(rt; local.buffers.active().source, other);
+    assert!(rt; !local.buffers.is_filled());
 }
 
 #[test]
