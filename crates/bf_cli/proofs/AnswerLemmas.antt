@@ -1,11 +1,13 @@
 -- Why an answer comes, and when.
-use Rattle.std.proofs.Common.{◌≡◌, ℕ, ◌+◌, ◌-◌, ◌^◌, ◌<◌, Bool, true, false, cond, eqb, Result, Ok, Err, List, ◌∷◌, Option, Some, None, IfSome, length, take, inl, inr, refl, sym, ◌∙◌, ap, subst, arith, lit<}
+use Rattle.std.proofs.Common.{◌≡◌, ℕ, ◌+◌, ◌-◌, ◌^◌, ◌<◌, Bool, true, false, cond, Result, Ok, Err, List, ◌∷◌, Option, Some, None, IfSome, length, take, inl, inr, refl, sym, ◌∙◌, ap, subst, arith, lit<}
 use Rattle.std.proofs.lemmas.List.{take_all, length-take}
-use Rattle.std.specs.Prelude.{IsTrue, Contains}
-use Rattle.std.proofs.lemmas.Bool.{and_parts, cases_lt, eqb-true, lt-ltb}
+use Rattle.std.specs.Prelude.{◌⊎◌, IsTrue, is_some, Contains}
+use Rattle.std.proofs.lemmas.Bool.{cases_lt, eqb-true, lt-ltb}
 use Rattle.bf_edge.specs.Faults.{Rose}
 use Rattle.bf_case.specs.declared.case.Case.{Case}
 use Rattle.bf_forest.specs.Setup.{case_of}
+use Rattle.bf_core.specs.declared.outcome.Outcome.{Outcome}
+use Rattle.bf_core.specs.declared.outcome.Outcome.TheVariants.{Finished, Lost, Memory}
 use Rattle.bf_cli.specs.declared.command.Command.{Command}
 use Rattle.bf_cli.specs.declared.command.Command.TheVariants as commands
 use Rattle.bf_cli.specs.declared.status.Status.{Status}
@@ -19,10 +21,11 @@ use Rattle.bf_cli.specs.declared.input.Input.{Input}
 use Rattle.bf_cli.specs.declared.input.Input.TheVariants as input
 use Rattle.bf_cli.specs.Commands.{Words, words_of, IsCommand, IsUsage, serves}
 use Rattle.bf_cli.specs.Inputs.{if_served, input_of, input_for, Accepts, Refuses}
-use Rattle.bf_cli.specs.Driven.{ForestWorld, HasRun, IsWorldOf}
+use Rattle.bf_cli.specs.Driven.{ForestWorld, outcome_of, HasRun, IsWorldOf, IsWanting, EndsAs}
 use Rattle.bf_cli.specs.Ends.{SourceEnds, SinkEnds, IsUnread, IsRead, source_of}
-use Rattle.bf_cli.specs.Answers.{status_line, Prints, HandsOut, IsAnswerOf, IsAnswer, no_command, of_command, Tells, IsDue, in_place_of}
-use Rattle.bf_cli.specs.Told.{IsMeant, IsCaused}
+use Rattle.bf_cli.specs.Answers.{status_line, Prints, Loses, HandsOut, IsAnswerOf, IsAnswer, no_command, of_command, Tells, IsSafe, IsDue, in_place_of}
+use Rattle.bf_cli.specs.Told.{IsMeantBy, IsCaused}
+use Rattle.bf_cli.proofs.DrivenLemmas.{EndsWell, not_lost}
 
 -- ---- what a command makes of bytes
 
@@ -50,7 +53,7 @@ pub served : (command : Command) (bytes : List ℕ) (c : Case) → Accepts comma
 served command bytes c accepted = served_spelled command bytes c (reading bytes) refl accepted
 
 pub no_regrid : (command : Command) (c : Case) → command ≡ commands.Drive → IsTrue (serves command c) → c.regrid ≡ 0
-no_regrid command c is served = eqb-true c.regrid 0 (and_parts (eqb c.regrid 0) _ (subst (λ k. IsTrue (serves k c)) is served)).0
+no_regrid command c is served = eqb-true c.regrid 0 (subst (λ k. IsTrue (serves k c)) is served)
 
 refused_alike : (command : Command) (bytes : List ℕ) (line code l k : ℕ) → Refuses command bytes line code → Refuses command bytes l k
     → status.Refused line code ≡ status.Refused l k
@@ -62,14 +65,23 @@ refused_runs_none command bytes line code c p q = absurd (let no : input.Refused
 
 -- ---- answers to bytes
 
-ranks_mean : (bytes : List ℕ) (w : ForestWorld) (meant : Status) (text : List ℕ) (world : Option ForestWorld) → IsWorldOf (Some bytes) w
-    → IsMeant (answers.World w) meant text world → IsAnswerOf commands.Drive (source_of bytes) meant text world
-ranks_mean bytes w meant text world its (inl (ok, finished, is), out) =
-    subst (λ s. IsAnswerOf commands.Drive (source_of bytes) s text world) (sym ok)
-    (record { left = refl; steady = refl }, (w, its, finished, is, out))
-ranks_mean bytes w meant text world its (inr (memory, is), out) =
+ranks_want : (bytes : List ℕ) (w : ForestWorld) (meant : Status) (text : List ℕ) (world : Option ForestWorld) → IsWorldOf (Some bytes) w → IsWanting w
+    → meant ≡ status.Memory → text ≡ status_line status.Memory → world ≡ Some w → IsAnswerOf commands.Drive (source_of bytes) meant text world
+ranks_want bytes w meant text world its wanting memory is out =
     subst (λ s. IsAnswerOf commands.Drive (source_of bytes) s text world) (sym memory)
-    (refl, subst (λ o. IfSome o (IsWorldOf (Some bytes))) (sym out) its, is)
+    (refl, subst (λ o. IfSome o (λ v. IsWorldOf (Some bytes) v × IsWanting v)) (sym out) (its, wanting), is)
+
+ranks_mean : (bytes : List ℕ) (w : ForestWorld) (end : Option Outcome) (meant : Status) (text : List ℕ) (world : Option ForestWorld) → IsWorldOf (Some bytes) w
+    → outcome_of w ≡ end → IsMeantBy w end meant text → world ≡ Some w → IsAnswerOf commands.Drive (source_of bytes) meant text world
+ranks_mean bytes w (Some Finished) meant text world its ends (inl (ok, is)) out =
+    subst (λ s. IsAnswerOf commands.Drive (source_of bytes) s text world) (sym ok)
+    (record { left = refl; steady = refl }, (w, its, ends, is, out))
+ranks_mean bytes w (Some Finished) meant text world its ends (inr (memory, is)) out = ranks_want bytes w meant text world its (inr ends) memory is out
+ranks_mean bytes w (Some (Lost time home buddy)) meant text world its ends (lost, is) out =
+    subst (λ s. IsAnswerOf commands.Drive (source_of bytes) s text world) (sym lost)
+    (record { left = refl; steady = refl }, (w, its, ends, out), is)
+ranks_mean bytes w (Some Memory) meant text world its ends (memory, is) out = ranks_want bytes w meant text world its (inl ends) memory is out
+ranks_mean bytes w None meant text world its ends meant_by out = absurd (let no : IsTrue false = subst (λ o. IsTrue (is_some o)) ends its.run.ended in cc)
 
 -- a world of ranks
 pub ranks_answer : (c : Case) (w : ForestWorld) (command : Command) → command ≡ commands.Drive → HasRun w → case_of w.setup ≡ c
@@ -77,7 +89,7 @@ pub ranks_answer : (c : Case) (w : ForestWorld) (command : Command) → command 
 ranks_answer c w command drives run is bytes accepted meant text world ends =
     let its : IsWorldOf (Some bytes) w =
     record { run = run; its = subst (λ d. Accepts commands.Drive bytes d) (sym is) (subst (λ k. Accepts k bytes c) drives accepted) } in
-    subst (λ k. IsAnswerOf k (source_of bytes) meant text world) (sym drives) (ranks_mean bytes w meant text world its ends)
+    subst (λ k. IsAnswerOf k (source_of bytes) meant text world) (sym drives) (ranks_mean bytes w (outcome_of w) meant text world its refl ends.0 ends.1)
 
 -- a refusal
 pub refusal_answers : (command : Command) (bytes : List ℕ) (line code : ℕ) → Refuses command bytes line code
@@ -114,7 +126,12 @@ hands_out_of_all : (command : Command) (left : Option (List ℕ)) (bytes : List 
     → HandsOut command (Some bytes) world → HandsOut command left world
 hands_out_of_all commands.One left bytes world e out = out
 hands_out_of_all commands.Drive left bytes None e out = tt
-hands_out_of_all commands.Drive left bytes (Some w) e out = world_of_all left bytes w e out
+hands_out_of_all commands.Drive left bytes (Some w) e out = (world_of_all left bytes w e out.0, out.1)
+
+loses_of_all : (command : Command) (left : Option (List ℕ)) (bytes : List ℕ) (time home buddy : ℕ) (world : Option ForestWorld)
+    → IfSome left (λ all. bytes ≡ take (input_limit + 1) all) → Loses command (Some bytes) time home buddy world → Loses command left time home buddy world
+loses_of_all commands.One left bytes time home buddy world e its = its
+loses_of_all commands.Drive left bytes time home buddy world e its = (its.0, world_of_all left bytes its.0 e its.1, its.2, its.3)
 
 prints_of_all : (command : Command) (left : Option (List ℕ)) (bytes text : List ℕ) (world : Option ForestWorld) → IfSome left (λ all. bytes ≡ take (input_limit + 1) all)
     → Prints command (Some bytes) text world → Prints command left text world
@@ -131,6 +148,8 @@ answer_of_all : (command : Command) (source : SourceEnds) (bytes : List ℕ) (me
 answer_of_all command source bytes status.Ok text world e read its = (read, prints_of_all command source.left bytes text world e its.1)
 answer_of_all command source bytes (status.Refused line code) text world e read its =
     (read, of_all command source.left bytes (input.Refused line code) e its.1, its.2, its.3)
+answer_of_all command source bytes (status.Lost time home buddy) text world e read its =
+    (read, loses_of_all command source.left bytes time home buddy world e its.1, its.2)
 answer_of_all command source bytes status.Memory text world e read its =
     (read.steady, hands_out_of_all command source.left bytes world e its.1, its.2)
 answer_of_all command source bytes status.ReadFault text world e read its = absurd (never_rises its.0)
@@ -183,9 +202,52 @@ meant_fault words source meant text world rose (no_command usage unread) = absur
 meant_fault words source status.Ok text world rose (of_command command its cause) = absurd (omega (arith, rose, cause.0.steady))
 meant_fault words source status.Usage text world rose (of_command command its cause) = absurd cause
 meant_fault words source (status.Refused l k) text world rose (of_command command its cause) = absurd (omega (arith, rose, cause.0.steady))
+meant_fault words source (status.Lost t h b) text world rose (of_command command its cause) = absurd (omega (arith, rose, cause.0.steady))
 meant_fault words source status.Memory text world rose (of_command command its cause) = absurd (omega (arith, rose, cause.0))
 meant_fault words source status.ReadFault text world rose (of_command command its cause) = refl
 meant_fault words source status.WriteFault text world rose (of_command command its cause) = absurd cause
+
+-- no world is handed out
+none_ends : (world : Option ForestWorld) (outcome : Outcome) → world ≡ None → EndsAs world outcome → ⊥
+none_ends world outcome none ends = absurd (let no : None ≡ Some ends.0 = sym none ∙ ends.1 in cc)
+
+-- a world has one end
+one_end : (world : Option ForestWorld) (w : ForestWorld) (x y : Outcome) → world ≡ Some w → outcome_of w ≡ Some x → EndsAs world y → x ≡ y
+one_end world w x y out is ends =
+    let same : Some w ≡ Some ends.0 = sym out ∙ ends.1 in
+    let one : w ≡ ends.0 = cc in
+    let both : Some x ≡ Some y = sym is ∙ ap outcome_of one ∙ ends.2 in cc
+
+-- what may be meant where a world is handed out, by how its run ended
+abbrev IsMeantAt : Outcome → Status → Type 0
+IsMeantAt Finished meant = (meant ≡ status.Ok) ⊎ (meant ≡ status.Memory)
+IsMeantAt (Lost time home buddy) meant = meant ≡ status.Lost time home buddy
+IsMeantAt Memory meant = meant ≡ status.Memory
+
+wanting_at : (world : Option ForestWorld) (w : ForestWorld) (y : Outcome) → world ≡ Some w → IsWanting w → EndsAs world y → IsMeantAt y status.Memory
+wanting_at world w y out (inl memory) ends = subst (λ o. IsMeantAt o status.Memory) (one_end world w Memory y out memory ends) refl
+wanting_at world w y out (inr finished) ends = subst (λ o. IsMeantAt o status.Memory) (one_end world w Finished y out finished ends) (inr refl)
+
+of_command_at : (command : Command) (source : SourceEnds) (meant : Status) (text : List ℕ) (world : Option ForestWorld) (y : Outcome) → EndsAs world y
+    → IsAnswerOf command source meant text world → IsMeantAt y meant
+of_command_at commands.One source status.Ok text world y ends cause = absurd (none_ends world y cause.1.4 ends)
+of_command_at commands.Drive source status.Ok text world y ends cause =
+    subst (λ o. IsMeantAt o status.Ok) (one_end world cause.1.0 Finished y cause.1.4 cause.1.2 ends) (inl refl)
+of_command_at command source status.Usage text world y ends cause = absurd cause
+of_command_at command source (status.Refused l k) text world y ends cause = absurd (none_ends world y cause.3 ends)
+of_command_at commands.One source (status.Lost t h b) text world y ends cause = absurd cause.1
+of_command_at commands.Drive source (status.Lost t h b) text world y ends cause =
+    subst (λ o. IsMeantAt o (status.Lost t h b)) (one_end world cause.1.0 (Lost t h b) y cause.1.3 cause.1.2 ends) refl
+of_command_at commands.One source status.Memory text world y ends cause = absurd (none_ends world y cause.1 ends)
+of_command_at commands.Drive source status.Memory text world y ends cause =
+    wanting_at world ends.0 y ends.1 (subst (λ o. IfSome o (λ v. IsWorldOf source.left v × IsWanting v)) ends.1 cause.1).1 ends
+of_command_at command source status.ReadFault text world y ends cause = absurd (none_ends world y cause.2 ends)
+of_command_at command source status.WriteFault text world y ends cause = absurd cause
+
+meant_at : (words : Words) (source : SourceEnds) (meant : Status) (text : List ℕ) (world : Option ForestWorld) (y : Outcome) → EndsAs world y
+    → IsAnswer words source meant text world → IsMeantAt y meant
+meant_at words source meant text world y ends (no_command usage unread) = absurd (none_ends None y refl ends)
+meant_at words source meant text world y ends (of_command command its cause) = of_command_at command source meant text world y ends cause
 
 -- what is so of told bytes
 of_told : (left : Option (List ℕ)) (bytes : List ℕ) (P : List ℕ → Type 0) → left ≡ Some bytes → IfSome left P → P bytes
@@ -200,6 +262,13 @@ prints_none_refused commands.Drive left bytes text world line code is its refuse
     refused_runs_none commands.Drive bytes line code (case_of its.0.setup) refused
     (of_told left bytes (λ b. Accepts commands.Drive b (case_of its.0.setup)) is its.1.its)
 
+loses_none_refused : (command : Command) (left : Option (List ℕ)) (bytes : List ℕ) (time home buddy : ℕ) (world : Option ForestWorld) (line code : ℕ)
+    → left ≡ Some bytes → Loses command left time home buddy world → Refuses command bytes line code → ⊥
+loses_none_refused commands.One left bytes time home buddy world line code is its refused = its
+loses_none_refused commands.Drive left bytes time home buddy world line code is its refused =
+    refused_runs_none commands.Drive bytes line code (case_of its.0.setup) refused
+    (of_told left bytes (λ b. Accepts commands.Drive b (case_of its.0.setup)) is its.1.its)
+
 refused_due : (command : Command) (source : SourceEnds) (bytes : List ℕ) (meant s : Status) (text : List ℕ) (world : Option ForestWorld) (line code : ℕ)
     → source.left ≡ Some bytes → Refuses command bytes line code → s ≡ meant → IsAnswerOf command source meant text world
     → Contains (status.Refused line code ∷ in_place_of (status.Refused line code)) s
@@ -208,38 +277,61 @@ refused_due command source bytes status.Ok s text world line code is refused sam
 refused_due command source bytes status.Usage s text world line code is refused same cause = absurd cause
 refused_due command source bytes (status.Refused l k) s text world line code is refused same cause =
     (0, lit< tt, refused_alike command bytes line code l k refused (of_told source.left bytes (λ b. Refuses command b l k) is cause.1) ∙ sym same)
+refused_due command source bytes (status.Lost t h b) s text world line code is refused same cause =
+    absurd (loses_none_refused command source.left bytes t h b world line code is cause.1 refused)
 refused_due command source bytes status.Memory s text world line code is refused same cause = (1, lit< tt, sym same)
 refused_due command source bytes status.ReadFault s text world line code is refused same cause = (2, lit< tt, sym same)
 refused_due command source bytes status.WriteFault s text world line code is refused same cause = absurd cause
 
-map_due : (command : Command) (source : SourceEnds) (bytes : List ℕ) (c : Case) (meant s : Status) (text : List ℕ) (world : Option ForestWorld)
-    → source.left ≡ Some bytes → Accepts command bytes c → s ≡ meant → IsAnswerOf command source meant text world
-    → Contains (status.Ok ∷ in_place_of status.Ok) s
-map_due command source bytes c status.Ok s text world is accepted same cause = (0, lit< tt, sym same)
-map_due command source bytes c status.Usage s text world is accepted same cause = absurd cause
-map_due command source bytes c (status.Refused l k) s text world is accepted same cause =
-    absurd (refused_runs_none command bytes l k c (of_told source.left bytes (λ b. Refuses command b l k) is cause.1) accepted)
-map_due command source bytes c status.Memory s text world is accepted same cause = (1, lit< tt, sym same)
-map_due command source bytes c status.ReadFault s text world is accepted same cause = (2, lit< tt, sym same)
-map_due command source bytes c status.WriteFault s text world is accepted same cause = absurd cause
+-- a world of these bytes is of their case
+of_these : (left : Option (List ℕ)) (bytes : List ℕ) (c : Case) (w : ForestWorld) → left ≡ Some bytes → Accepts commands.Drive bytes c → IsWorldOf left w
+    → case_of w.setup ≡ c
+of_these left bytes c w is accepted its =
+    let same : input.Accepted (case_of w.setup) ≡ input.Accepted c =
+    sym (of_told left bytes (λ b. Accepts commands.Drive b (case_of w.setup)) is its.its) ∙ accepted in cc
 
-pub due_answers : (words : Words) (source : SourceEnds) (sink : SinkEnds) (meant s : Status) (text : List ℕ) (world : Option ForestWorld)
-    → IsAnswer words source meant text world → Tells meant text s sink → (due : Status) → IsDue words source sink due → Contains (due ∷ in_place_of due) s
-due_answers words source sink meant s text world cause (inl whole) status.Usage usage =
+-- where a command comes to its map nothing is lost
+safe_loses_none : (command : Command) (left : Option (List ℕ)) (bytes : List ℕ) (c : Case) (time home buddy : ℕ) (world : Option ForestWorld) → EndsWell
+    → left ≡ Some bytes → Accepts command bytes c → IsSafe command c world → Loses command left time home buddy world → ⊥
+safe_loses_none commands.One left bytes c time home buddy world ends_well is accepted safe its = its
+safe_loses_none commands.Drive left bytes c time home buddy world ends_well is accepted (inl nobody) its =
+    not_lost its.0 time home buddy ends_well its.1.run (ap (λ (k : Case). k.dies) (of_these left bytes c its.0 is accepted its.1) ∙ nobody) its.2
+safe_loses_none commands.Drive left bytes c time home buddy world ends_well is accepted (inr not) its = not time home buddy (its.0, its.3, its.2)
+
+map_due : (command : Command) (source : SourceEnds) (bytes : List ℕ) (c : Case) (meant s : Status) (text : List ℕ) (world : Option ForestWorld) → EndsWell
+    → source.left ≡ Some bytes → Accepts command bytes c → IsSafe command c world → s ≡ meant → IsAnswerOf command source meant text world
+    → Contains (status.Ok ∷ in_place_of status.Ok) s
+map_due command source bytes c status.Ok s text world ends_well is accepted safe same cause = (0, lit< tt, sym same)
+map_due command source bytes c status.Usage s text world ends_well is accepted safe same cause = absurd cause
+map_due command source bytes c (status.Refused l k) s text world ends_well is accepted safe same cause =
+    absurd (refused_runs_none command bytes l k c (of_told source.left bytes (λ b. Refuses command b l k) is cause.1) accepted)
+map_due command source bytes c (status.Lost t h b) s text world ends_well is accepted safe same cause =
+    absurd (safe_loses_none command source.left bytes c t h b world ends_well is accepted safe cause.1)
+map_due command source bytes c status.Memory s text world ends_well is accepted safe same cause = (1, lit< tt, sym same)
+map_due command source bytes c status.ReadFault s text world ends_well is accepted safe same cause = (2, lit< tt, sym same)
+map_due command source bytes c status.WriteFault s text world ends_well is accepted safe same cause = absurd cause
+
+pub due_answers : (words : Words) (source : SourceEnds) (sink : SinkEnds) (meant s : Status) (text : List ℕ) (world : Option ForestWorld) → EndsWell
+    → IsAnswer words source meant text world → Tells meant text s sink → (due : Status) → IsDue words source sink world due → Contains (due ∷ in_place_of due) s
+due_answers words source sink meant s text world ends_well cause (inl whole) status.Usage usage =
     (0, lit< tt, sym (whole.0 ∙ meant_usage words source meant text world usage cause))
-due_answers words source sink meant s text world cause (inl whole) status.ReadFault rose =
+due_answers words source sink meant s text world ends_well cause (inl whole) status.ReadFault rose =
     (0, lit< tt, sym (whole.0 ∙ meant_fault words source meant text world rose cause))
-due_answers words source sink meant s text world cause (inl whole) (status.Refused line code) asked =
+due_answers words source sink meant s text world ends_well cause (inl whole) (status.Refused line code) asked =
     refused_due asked.0 source asked.1.0 meant s text world line code asked.1.1.1 asked.1.1.2 whole.0
     (answer_of words source meant text world asked.0 asked.1.1.0 cause)
-due_answers words source sink meant s text world cause (inl whole) status.Ok asked =
-    map_due asked.0 source asked.1.0 asked.1.1.2.0 meant s text world asked.1.1.1 asked.1.1.2.1 whole.0
+due_answers words source sink meant s text world ends_well cause (inl whole) status.Ok asked =
+    map_due asked.0 source asked.1.0 asked.1.1.2.0 meant s text world ends_well asked.1.1.1 asked.1.1.2.1 asked.1.1.2.2 whole.0
     (answer_of words source meant text world asked.0 asked.1.1.0 cause)
-due_answers words source sink meant s text world cause (inl whole) status.Memory never = absurd never
-due_answers words source sink meant s text world cause (inl whole) status.WriteFault rose = absurd (omega (arith, rose, whole.2))
-due_answers words source sink meant s text world cause (inr front) status.Usage usage = (1, lit< tt, sym front.0)
-due_answers words source sink meant s text world cause (inr front) status.ReadFault rose = (1, lit< tt, sym front.0)
-due_answers words source sink meant s text world cause (inr front) (status.Refused line code) asked = (3, lit< tt, sym front.0)
-due_answers words source sink meant s text world cause (inr front) status.Ok asked = (3, lit< tt, sym front.0)
-due_answers words source sink meant s text world cause (inr front) status.Memory never = absurd never
-due_answers words source sink meant s text world cause (inr front) status.WriteFault rose = (0, lit< tt, sym front.0)
+due_answers words source sink meant s text world ends_well cause (inl whole) (status.Lost time home buddy) ends =
+    (0, lit< tt, sym (whole.0 ∙ meant_at words source meant text world (Lost time home buddy) ends cause))
+due_answers words source sink meant s text world ends_well cause (inl whole) status.Memory ends =
+    (0, lit< tt, sym (whole.0 ∙ meant_at words source meant text world Memory ends cause))
+due_answers words source sink meant s text world ends_well cause (inl whole) status.WriteFault rose = absurd (omega (arith, rose, whole.2))
+due_answers words source sink meant s text world ends_well cause (inr front) status.Usage usage = (1, lit< tt, sym front.0)
+due_answers words source sink meant s text world ends_well cause (inr front) status.ReadFault rose = (1, lit< tt, sym front.0)
+due_answers words source sink meant s text world ends_well cause (inr front) (status.Refused line code) asked = (3, lit< tt, sym front.0)
+due_answers words source sink meant s text world ends_well cause (inr front) status.Ok asked = (3, lit< tt, sym front.0)
+due_answers words source sink meant s text world ends_well cause (inr front) (status.Lost time home buddy) ends = (1, lit< tt, sym front.0)
+due_answers words source sink meant s text world ends_well cause (inr front) status.Memory ends = (1, lit< tt, sym front.0)
+due_answers words source sink meant s text world ends_well cause (inr front) status.WriteFault rose = (0, lit< tt, sym front.0)

@@ -1,6 +1,7 @@
 -- The text of a finished world.
-use Rattle.std.proofs.Common.{◌≡◌, ℕ, List, map, ap, sym, subst, ◌∙◌}
-use Rattle.std.specs.Prelude.{IsPermutation, IsTrue, Some}
+use Rattle.std.proofs.Common.{◌≡◌, ℕ, List, [], map, inl, inr, ap, sym, subst, ◌∙◌}
+use Rattle.std.specs.Prelude.{◌⊎◌, IsPermutation, IsTrue, Some, is_some}
+use Rattle.std.specs.List.{list_any}
 use Rattle.std.specs.List.Sorted.{IsNonDecreasingBy}
 use Rattle.std.proofs.lemmas.Simd.{map-map}
 use Rattle.bf_case.specs.MapText.{map_text}
@@ -11,7 +12,8 @@ use Rattle.bf_forest.specs.Cases.{KeepsRoots}
 use Rattle.bf_forest.specs.declared.setup.Setup.{Setup}
 use Rattle.bf_forest.specs.Setup.{case_of, every_setup_keeps_roots}
 use Rattle.bf_core.specs.declared.event.Event.{Event}
-use Rattle.bf_core.specs.declared.outcome.Outcome.TheVariants.{Finished}
+use Rattle.bf_core.specs.declared.outcome.Outcome.TheVariants.{Finished, Lost, Memory}
+use Rattle.bf_core.specs.Legal.{is_memory}
 use Rattle.bf_core.specs.States.{is_finished}
 use Rattle.bf_world.specs.Runs.{run_after, is_journal}
 use Rattle.bf_world.specs.Worlds.{IsView, core_after}
@@ -45,8 +47,32 @@ finished_text block_of world leaves has order is finished same rising =
     ap map_text (sym (map-map leaf_of block_of leaves)
     ∙ order c c.steps (blocks_of world.parcels) (map block_of leaves) (every_setup_keeps_roots world.setup) its same rising)
 
+-- what is known of the end of every complete run
+abbrev pub HasEnd : Type 0
+HasEnd = (setup : Setup) (journal : List Event) → IsTrue (is_journal forest setup journal)
+    → IsTrue (is_finished (core_after forest setup journal)) → IsTrue (is_some (core_after forest setup journal).outcome)
+
 -- the ranks have run the case of their world
-pub has_run : (c : Case) (w : ForestWorld) → case_of w.setup ≡ c → IsTrue (is_finished (core_after forest w.setup w.journal))
+pub has_run : (c : Case) (w : ForestWorld) → HasEnd → IsView forest w → case_of w.setup ≡ c → IsTrue (is_finished (core_after forest w.setup w.journal))
     → IsDriven forest IsGood w.setup c.order w.journal → HasRun w
-has_run c w is complete driven =
-    record { complete = complete; driven = subst (λ (k : Case). IsDriven forest IsGood w.setup k.order w.journal) (sym is) driven }
+has_run c w has_end view is complete driven = record {
+  legal = view.legal;
+  driven = subst (λ (k : Case). IsDriven forest IsGood w.setup k.order w.journal) (sym is) driven;
+  complete = complete;
+  ended = has_end w.setup w.journal view.legal complete;
+}
+
+-- what is known of every complete run of a case in which nobody is to die
+abbrev pub EndsWell : Type 0
+EndsWell = (setup : Setup) (journal : List Event) → (case_of setup).dies ≡ []
+    → IsTrue (is_journal forest setup journal) → IsTrue (is_finished (core_after forest setup journal))
+    → ((core_after forest setup journal).outcome ≡ Some Finished)
+    ⊎ (((core_after forest setup journal).outcome ≡ Some Memory) × IsTrue (list_any is_memory journal))
+
+-- so it is not lost
+pub not_lost : (w : ForestWorld) (time home buddy : ℕ) → EndsWell → HasRun w → (case_of w.setup).dies ≡ [] → outcome_of w ≡ Some (Lost time home buddy) → ⊥
+not_lost w time home buddy ends_well run nobody lost =
+    elim (ends_well w.setup w.journal nobody run.legal run.complete) [
+      | inl finished ↦ absurd (let no : Some Finished ≡ Some (Lost time home buddy) = sym finished ∙ lost in cc)
+      | inr wanting ↦ absurd (let no : Some Memory ≡ Some (Lost time home buddy) = sym wanting.0 ∙ lost in cc)
+    ]

@@ -1,5 +1,5 @@
 -- The commands, their words, and the cases that each serves.
-use Rattle.std.specs.Prelude.{◌≡◌, ℕ, ◌==◌, nat_le, Bool, true, ◌&&◌, List, [], ◌∷◌, codes, length, map}
+use Rattle.std.specs.Prelude.{◌≡◌, ℕ, ◌==◌, Bool, true, List, [], ◌∷◌, codes, map}
 use Rattle.std.specs.Borrow.{Bor}
 use Rattle.bf_case.specs.declared.case.Case.{Case}
 use Rattle.bf_cli.specs.declared.command.Command.{Command}
@@ -24,7 +24,7 @@ IsCommand words command = texts words ≡ words_of command
 abbrev pub IsUsage : Words → Type 0
 IsUsage words = (command : Command) → IsCommand words command → ⊥
 
--- whether a command serves a case: one process serves all; ranks those with no regrid, one snapshot, at the end, and no deaths
+-- whether a command serves a case: one process serves all, ranks those with no regrid
 abbrev pub serves : Command → Case → Bool
 serves commands.One c = true
-serves commands.Drive c = (c.regrid == 0) && (nat_le c.steps c.snapshot && (length c.dies == 0))
+serves commands.Drive c = c.regrid == 0

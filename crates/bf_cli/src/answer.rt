@@ -3,7 +3,9 @@ ghost use Rattle.std.specs.Prelude.{◌≡◌, ℕ, List, ◌≤◌, ◌++◌, S
 ghost use Rattle.bf_case.specs.MapText.{map_text};
 ghost use Rattle.bf_cli.specs.Answers.{status_line, Tells};
 ghost use Rattle.bf_cli.specs.Ends.{sink_ends};
-ghost use Rattle.bf_cli.specs.Told.{IsMeant};
+ghost use Rattle.bf_cli.specs.Driven.{outcome_of};
+ghost use Rattle.bf_cli.specs.Told.{IsMeantBy};
+ghost use Rattle.bf_core.specs.declared.outcome.Outcome.TheVariants.{Finished};
 ghost use Rattle.bf_edge.specs.Faults.{Rose};
 ghost use Rattle.bf_edge.specs.Sheet.{Prints};
 ghost use Rattle.bf_edge.specs.Sink.{appended, AppendsPrefix};
@@ -44,6 +46,16 @@ fn print_refusal<W: Sink>(sink: &mut W, sheet: &mut Sheet, line: u32, code: u32)
     print(sink, sheet, b"\n");
 }
 
+/// Prints the line of a loss.
+fn print_loss<W: Sink>(sink: &mut W, sheet: &mut Sheet, time: u32, home: u32, buddy: u32)
+    ensures { Prints W.written W.faults sink.old sink.new sheet.old sheet.new (status_line (Status.Lost time home buddy)) }
+{
+    print_numbered(sink, sheet, b"lost time ", time);
+    print_numbered(sink, sheet, b" home ", home);
+    print_numbered(sink, sheet, b" buddy ", buddy);
+    print(sink, sheet, b"\n");
+}
+
 /// Prints the line that tells a status.
 fn print_status<W: Sink>(sink: &mut W, sheet: &mut Sheet, status: Status)
     ensures { Prints W.written W.faults sink.old sink.new sheet.old sheet.new (status_line status) }
@@ -52,6 +64,7 @@ fn print_status<W: Sink>(sink: &mut W, sheet: &mut Sheet, status: Status)
         Status::Ok | Status::WriteFault => print(sink, sheet, b""),
         Status::Usage => print(sink, sheet, b"usage\n"),
         Status::Refused { line, code } => print_refusal(sink, sheet, line, code),
+        Status::Lost { time, home, buddy } => print_loss(sink, sheet, time, home, buddy),
         Status::Memory => print(sink, sheet, b"memory\n"),
         Status::ReadFault => print(sink, sheet, b"read fault\n"),
     }
@@ -97,20 +110,33 @@ fn tell_map<W: Sink, L: AsLeaf>(sink: &mut W, leaves: &[L]) -> Status
     status_told(told, Status::Ok)
 }
 
-/// Tells the leaves of a finished world. Of one that has ended otherwise it tells that memory was wanting.
-fn tell_world<W: Sink>(alloc: Global, sink: &mut W, world: &World<Forest>) -> Status
-    ensures { (meant : Status) × ((text : List ℕ) × (IsMeant (Answer.World world.now) meant text (Some world.now)
+/// Tells the leaves of a finished world, or that memory was wanting for their list.
+fn tell_leaves<W: Sink>(alloc: Global, sink: &mut W, world: &World<Forest>) -> Status
+    requires finished { outcome_of world.now ≡ Some Finished }
+    ensures { (meant : Status) × ((text : List ℕ) × (IsMeantBy world.now (Some Finished) meant text
         × Tells meant text result (sink_ends W.written W.faults sink.old sink.new))) }
 {
     world.known();
     a_finished_run_has_the_leaves();
     leaves_in_order_are_the_map();
-    if let Some(Outcome::Finished) = world.outcome() {
-        if let Ok(found) = leaves(alloc, world.parcels()) {
-            return tell_map(sink, found.as_slice());
-        }
+    match leaves(alloc, world.parcels()) {
+        Ok(found) => tell_map(sink, found.as_slice()),
+        Err(_refused) => tell_line(sink, Status::Memory),
     }
-    tell_line(sink, Status::Memory)
+}
+
+/// Tells what a run came to, as it ended: its leaves, a loss, or that memory was wanting.
+fn tell_world<W: Sink>(alloc: Global, sink: &mut W, world: &World<Forest>) -> Status
+    ensures { (meant : Status) × ((text : List ℕ) × (IsMeantBy world.now (outcome_of world.now) meant text
+        × Tells meant text result (sink_ends W.written W.faults sink.old sink.new))) }
+{
+    match world.outcome() {
+        Some(Outcome::Finished) => tell_leaves(alloc, sink, world),
+        Some(Outcome::Lost { time, home, buddy }) => {
+            tell_line(sink, Status::Lost { time, home, buddy })
+        }
+        Some(Outcome::Memory) | None => tell_line(sink, Status::Memory),
+    }
 }
 
 impl Answer {

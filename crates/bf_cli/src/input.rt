@@ -27,9 +27,7 @@ fn serves(command: Command, case: &Case) -> bool
 {
     match command {
         Command::One => true,
-        Command::Drive => {
-            case.regrid == 0 && case.steps <= case.snapshot && case.dies.is_empty()
-        }
+        Command::Drive => case.regrid == 0,
     }
 }
 

@@ -13,6 +13,8 @@ pub enum Status {
     Usage,
     /// The input spells no case, or one that the command doesn't serve. Lines count from 1; line 0 is the whole input.
     Refused { line: u32, code: u32 },
+    /// Both holders of a part of the agreed snapshot have died: the snapshot's time, the part's home, and its buddy.
+    Lost { time: u32, home: u32, buddy: u32 },
     /// Memory was refused before anything was written.
     Memory,
     /// The source failed.
@@ -32,6 +34,7 @@ impl Status {
             Status::Ok => 0,
             Status::Usage => 2,
             Status::Refused { .. } => 3,
+            Status::Lost { .. } => 4,
             Status::Memory => 5,
             Status::ReadFault => 6,
             Status::WriteFault => 7,

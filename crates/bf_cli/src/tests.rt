@@ -1,4 +1,7 @@
 //! The top call over sources and sinks in memory.
+mod deaths;
+mod table;
+
 use crate::status::Status;
 use crate::top::plain;
 use bf_edge::{MemSink, MemSource};
@@ -42,6 +45,8 @@ const REGRID: usize = 7;
 const REFINE: usize = 8;
 
 const COARSEN: usize = 9;
+
+const SHIFT: usize = 12;
 
 const END: usize = 13;
 
@@ -156,8 +161,10 @@ fn a_value_flows_into_the_next_root(rt: HostRuntime) -> Result<(), Fail> {
 fn ranks_print_the_same(rt: HostRuntime) -> Result<(), Fail> {
     let alloc = rt.alloc();
     expect_of(&rt, alloc, "drive", drop_text(alloc)?, Status::Ok, DROP)?;
-    let plain_order = two_roots_with(alloc, "snapshot 2\n", "fill 0 0 0 1 1 1 80\nend\n")?;
-    expect_of(&rt, alloc, "drive", plain_order, Status::Ok, TWO_ROOTS)?;
+    for snapshot in ["snapshot 1\n", "snapshot 2\n"] {
+        let plain_order = two_roots_with(alloc, snapshot, "fill 0 0 0 1 1 1 80\nend\n")?;
+        expect_of(&rt, alloc, "drive", plain_order, Status::Ok, TWO_ROOTS)?;
+    }
     let end = "order 1 1 1 0\nfill 0 0 0 1 1 1 80\norder 0 1 0\nend\n";
     let ordered = two_roots_with(alloc, "snapshot 2\n", end)?;
     expect_of(&rt, alloc, "drive", ordered, Status::Ok, TWO_ROOTS)
@@ -181,12 +188,8 @@ fn expect_refusal(
 #[test]
 fn what_is_not_built_is_refused(rt: HostRuntime) -> Result<(), Fail> {
     let alloc = rt.alloc();
-    let again = two_roots_with(alloc, "snapshot 1\n", "end\n")?;
-    expect_refusal(&rt, alloc, "drive", again, 0, 99)?;
     let regrid = text_with(alloc, &[(REGRID, "regrid 1\n")])?;
     expect_refusal(&rt, alloc, "drive", regrid, 0, 99)?;
-    let death = text_with(alloc, &[(END, "die 0 0\nend\n")])?;
-    expect_refusal(&rt, alloc, "drive", death, 0, 99)?;
     let endless = text_with(alloc, &[(REGRID, "regrid 1\n"), (END, "")])?;
     expect_refusal(&rt, alloc, "drive", endless, 14, 16)?;
     let end = "fill 0 0 0 2 0 0 1\nend\n";
@@ -285,6 +288,26 @@ fn what_is_no_case_is_refused(rt: HostRuntime) -> Result<(), Fail> {
     expect_refusal(&rt, alloc, "one", Vec::new(alloc), 1, 16)?;
     let long = vec![in alloc; b'\n'; 1_048_577]?;
     expect_refusal(&rt, alloc, "one", long, 0, 2)
+}
+
+/// A line that no case has, after so many blank lines behind a case's head.
+fn expect_late_refusal(rt: &impl Abort, alloc: Global, blank: usize) -> Result<(), Fail> {
+    let line = blank.wrapping_add(END + 1) as u32;
+    for command in ["one", "drive"] {
+        let mut text = text_with(alloc, &[(END, "")])?;
+        let blanks = vec![in alloc; b'\n'; blank]?;
+        text.extend_from_slice(blanks.as_slice())?;
+        text.extend_from_slice(b"fill 0 0 0 2 0 0 1\nend\n")?;
+        expect_refusal(rt, alloc, command, text, line, 11)?;
+    }
+    Ok(())
+}
+
+#[test]
+fn a_fault_is_told_however_late_it_comes(rt: HostRuntime) -> Result<(), Fail> {
+    let alloc = rt.alloc();
+    expect_late_refusal(&rt, alloc, 90)?;
+    expect_late_refusal(&rt, alloc, 12_000)
 }
 
 /// CR before LF, a blank line, and comments.

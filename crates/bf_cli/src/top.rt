@@ -12,6 +12,7 @@ use crate::command::{Command, command_of};
 use crate::input::{Input, read_input};
 use crate::status::{Ended, Status};
 use bf_case::Case;
+use bf_driven::laws::{a_case_without_deaths_ends, a_complete_run_ends};
 use bf_driven::run;
 use bf_edge::{Memory, ReadEnd, Sink, Source, read_up_to};
 use bf_plain::one_run;
@@ -32,6 +33,8 @@ fn run_case(alloc: Global, command: Command, case: Case) -> Result<Answer, Memor
         }
         Command::Drive => {
             let world = run(alloc, case)?;
+            world.known();
+            a_complete_run_ends();
             Ok(Answer::World(world))
         }
     }
@@ -78,10 +81,11 @@ fn answer_to<R: Source>(alloc: Global, words: &[&str], source: &mut R) -> Answer
 ///
 /// The commands are `one` and `drive`. Both read a case, in at most 1,048,576 bytes, and print the map after all steps: `one`
 /// by one process alone, `drive` by ranks whose turns follow the case's order. An input that spells no case is refused by
-/// its first line at fault and the number of the cause (`bf_text::Code`). A case with a regrid, with a snapshot before the
-/// end or with a death is refused by `drive` with line 0 and code 99, since it doesn't serve it. All memory is taken
-/// before the first byte is written. Where several answers could be given the order is: usage, a fault in reading, a
-/// refusal, the map, a fault in writing. Want of memory may come in place of a refusal or the map.
+/// its first line at fault and the number of the cause (`bf_text::Code`). A case with a regrid is refused by `drive` with
+/// line 0 and code 99, since it doesn't serve it. Where both holders of a part of the agreed snapshot have died, `drive`
+/// says that it is lost. All memory is taken before the first byte is written. Where several answers could be given the
+/// order is: usage, a fault in reading, a refusal, the map or a loss, a fault in writing. Want of memory may come in place
+/// of a refusal or the map, but where ranks have run, only as their run ended, or for the list of a finished run's leaves.
 pub fn plain<R: Source, W: Sink>(
     alloc: Global,
     words: &[&str],
@@ -99,11 +103,13 @@ pub fn plain<R: Source, W: Sink>(
     ensures due { AnswersDue words.now
         (source_ends R.left R.faults source.old source.new)
         (sink_ends W.written W.faults sink.old sink.new)
+        result.world
         result.status }
 
     // What is left of the source.
     ensures left { IsLeft (source_ends R.left R.faults source.old source.new) }
 {
+    a_case_without_deaths_ends();
     let answer = answer_to(alloc, words, source);
     answer.tell(alloc, sink)
 }

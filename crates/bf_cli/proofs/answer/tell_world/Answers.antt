@@ -1,29 +1,14 @@
-use Rattle.std.proofs.Common.{◌≡◌, inl, refl, subst, map, ◌∙◌, sym, ap}
-use Rattle.std.specs.Prelude.{IsPermutation, Some}
-use Rattle.std.specs.Borrow.{Bor}
-use Rattle.std.specs.List.Sorted.{IsNonDecreasingBy}
-use Rattle.bf_block.specs.Block.{BlockValue, leaf_of}
-use Rattle.bf_case.specs.MapText.{map_text}
+use Rattle.std.proofs.Common.{◌≡◌, subst, ◌∙◌, sym, ap}
+use Rattle.std.specs.Prelude.{Some}
 use Rattle.bf_core.specs.declared.outcome.Outcome.{Outcome}
 use Rattle.bf_core.specs.declared.outcome.Outcome.TheVariants.{Finished}
-use Rattle.bf_driven.specs.Parcels.{blocks_of}
 use Rattle.bf_cli.specs.Driven.{outcome_of}
-use Rattle.bf_cli.specs.declared.status.Status.TheVariants as status
-use Rattle.bf_cli.proofs.DrivenLemmas.{finished_text}
+use Rattle.bf_cli.specs.Told.{IsMeantBy}
 use Rattle.bf_cli.proofs.answer.tell_world.Goals as goal
 
-pub returns-in-Ok : goal.returns-in-Ok
-returns-in-Ok g c =
+pub returns-in-Some-Finished : goal.returns-in-Some-Finished
+returns-in-Some-Finished g c =
     let world = c.args.world.now in
-    let leaves = c.as_slice.result.now in
-    let block_of : Bor BlockValue → BlockValue = λ block. block.now in
-    let same = subst (λ l. IsPermutation (blocks_of world.parcels) (map block_of l)) (sym c.as_slice.ensures.value)
-    (subst (λ l. IsPermutation (blocks_of l) (map block_of c.in-Ok.found.items)) c.parcels.ensures c.in-Ok.ensures.same) in
-    let rising = subst (λ l. IsNonDecreasingBy (λ (block : BlockValue). block.id.root) (map block_of l)) (sym c.as_slice.ensures.value) c.in-Ok.ensures.rising in
-    let finished : outcome_of world ≡ Some Finished = sym c.outcome.ensures ∙ c.in-Some-Finished.is ∙ ap (λ (o : Outcome). Some o) c.in-Some-Finished.field-0-is in (
-      status.Ok,
-      (
-        map_text (map (λ (block : Bor BlockValue). leaf_of block.now) leaves),
-        ((inl (refl, finished, finished_text block_of world leaves c.a_finished_run_has_the_leaves.ensures c.leaves_in_order_are_the_map.ensures c.known.ensures finished same rising), refl), c.tell_map.ensures),
-      ),
-    )
+    let finished : outcome_of world ≡ Some Finished = sym c.outcome.ensures ∙ c.in-Some-Finished.is ∙ ap (λ (o : Outcome). Some o) c.in-Some-Finished.field-0-is in
+    let told = c.tell_leaves.ensures in
+    (told.0, (told.1.0, (subst (λ o. IsMeantBy world o told.0 told.1.0) (sym finished) told.1.1.0, told.1.1.1)))
