@@ -21,3 +21,7 @@ pub mod WeightLemmas
 pub mod ReachedLemmas
 pub mod PeaceLemmas
 pub mod EndLemmas
+pub mod DeathLemmas
+pub mod LostLemmas
+pub mod DecisionLemmas
+pub mod FateLemmas

@@ -1,9 +1,10 @@
 -- The run that a journal tells, once one event more has happened, and how many events it counts.
-use Rattle.std.proofs.Common.{◌≡◌, ℕ, zero, ◌+◌, ◌*◌, ◌≤◌, Bool, true, false, ◌&&◌, List, [], ◌∷◌, ◌++◌, map, length, replicate, get_or, arith, refl, sym, subst, ap, inl, inr}
+use Rattle.std.proofs.Common.{◌≡◌, ℕ, zero, ◌+◌, ◌*◌, ◌≤◌, true, ◌&&◌, List, [], ◌∷◌, ◌++◌, map, length, replicate, get_or, arith, refl, sym, subst, ◌∙◌, ap, inl, inr}
 use Rattle.std.specs.Prelude.{◌==◌, if◌then◌else◌}
 use Rattle.std.specs.List.{range_with_len}
 use Rattle.std.specs.Map.{lookup}
-use Rattle.std.proofs.lemmas.Bool.{cases_lt}
+use Rattle.std.proofs.Math.Bool.{and_assoc}
+use Rattle.std.proofs.lemmas.Bool.{cases_lt, and_from}
 use Rattle.std.proofs.lemmas.List.{get_or_past, get_or-replicate, length-replicate}
 use Rattle.std.proofs.lemmas.List.FromFn.{length-map-range_with_len, get_or-map-range_with_len}
 use Rattle.bf_program.specs.declared.epoch.Epoch.{Epoch}
@@ -28,29 +29,35 @@ module _ {S L M T R : Type 0} (m : Meanings S L M T R) (setup : S) where
   unfolding next_run
   ripe_next run event may ripe = rw (may, ripe) refl
 
-  run_from_more : (run : Run L T) (journal : List Event) (event : Event)
-      → run_from m setup run (journal ++ event ∷ []) ≡ next_run m setup (run_from m setup run journal) event
-  run_from_more run [] event = refl
-  run_from_more run (first ∷ journal) event = run_from_more (next_run m setup run first) journal event
+  run_from_joined : (run : Run L T) (journal more : List Event) → run_from m setup run (journal ++ more) ≡ run_from m setup (run_from m setup run journal) more
+  run_from_joined run [] more = refl
+  run_from_joined run (event ∷ events) more = run_from_joined (next_run m setup run event) events more
+
+  -- the run after a journal and more events
+  pub run_joined : (journal more : List Event) → run_after m setup (journal ++ more) ≡ run_from m setup (run_after m setup journal) more
+  unfolding run_after
+  run_joined journal more = run_from_joined (opening_run m setup) journal more
 
   pub run_more : (journal : List Event) (event : Event) → run_after m setup (journal ++ event ∷ []) ≡ next_run m setup (run_after m setup journal) event
-  unfolding run_after
-  run_more journal event = run_from_more (opening_run m setup) journal event
+  run_more journal event = run_joined journal (event ∷ [])
 
-  legal_from_more : (run : Run L T) (journal : List Event) (event : Event) → is_legal_from m setup run journal ≡ true
-      → is_legal_in m setup (run_from m setup run journal) event ≡ true → is_legal_from m setup run (journal ++ event ∷ []) ≡ true
-  legal_from_more run [] event before legal = rw legal refl
-  legal_from_more run (first ∷ journal) event before legal =
-      both (is_legal_in m setup run first) _ _ before (λ rest. legal_from_more (next_run m setup run first) journal event rest legal)
-    where
-      both : (a b c : Bool) → (a && b) ≡ true → (b ≡ true → c ≡ true) → (a && c) ≡ true
-      both true b c holds more = more holds
-      both false b c holds more = absurd (cc)
+  legal_from_joined : (run : Run L T) (journal more : List Event)
+      → is_legal_from m setup run (journal ++ more) ≡ (is_legal_from m setup run journal && is_legal_from m setup (run_from m setup run journal) more)
+  legal_from_joined run [] more = refl
+  legal_from_joined run (event ∷ events) more =
+      ap (λ b. is_legal_in m setup run event && b) (legal_from_joined (next_run m setup run event) events more)
+      ∙ sym (and_assoc (is_legal_in m setup run event) (is_legal_from m setup (next_run m setup run event) events) _)
+
+  -- a journal and more events are legal exactly where both are, each in its turn
+  pub journal_joined : (journal more : List Event)
+      → is_journal m setup (journal ++ more) ≡ (is_journal m setup journal && is_legal_from m setup (run_after m setup journal) more)
+  unfolding is_journal run_after
+  journal_joined journal more = legal_from_joined (opening_run m setup) journal more
 
   pub journal_more : (journal : List Event) (event : Event) → is_journal m setup journal ≡ true
       → is_legal_in m setup (run_after m setup journal) event ≡ true → is_journal m setup (journal ++ event ∷ []) ≡ true
-  unfolding is_journal run_after
-  journal_more journal event before legal = legal_from_more (opening_run m setup) journal event before legal
+  journal_more journal event before legal =
+      journal_joined journal (event ∷ []) ∙ and_from (is_journal m setup journal) _ before (and_from (is_legal_in m setup (run_after m setup journal) event) true legal refl)
 
   restores_from_more : (run : Run L T) (journal : List Event) (event : Event) (before : ℕ) → restores_from m setup run (journal ++ event ∷ []) before
       ≡ (if brings_restore m setup (run_from m setup run journal) event then restores_from m setup run journal before + 1

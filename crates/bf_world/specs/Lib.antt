@@ -9,3 +9,4 @@ pub mod Results
 pub mod Ends
 pub mod Weights
 pub mod Settled
+pub mod Losses

@@ -7,6 +7,7 @@
 mod answers;
 mod journal;
 pub mod laws;
+pub mod losses;
 mod queues;
 mod steps;
 mod world;
