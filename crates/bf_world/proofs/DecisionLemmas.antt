@@ -21,10 +21,10 @@ use Rattle.bf_core.specs.Laws.{LosesAt}
 use Rattle.bf_core.proofs.ListLemmas.{filter_range}
 use Rattle.bf_core.proofs.LawLemmas.{Losses, IsSameEpoch, same_epoch, running_where_ripe, next_settles, next_happens, ripe_decides, unripe_waits, lost_where}
 use Rattle.bf_world.specs.Losses.{has_died, survivors, BothHoldersDied, IsFirstLost, EndsLost, decides_in}
-use Rattle.bf_world.specs.Runs.{Run, place, will_be_filled, opening_run, next_run, is_legal_in, run_from, is_legal_from, run_after, is_journal}
+use Rattle.bf_world.specs.Runs.{Run, place, will_be_filled, opening_run, run_happened, next_run, is_legal_in, run_from, is_legal_from, run_after, is_journal}
 use Rattle.bf_world.specs.Worlds.{brings_decision, core_after}
-use Rattle.bf_world.proofs.LawfulLemmas.{IsLawful, core_next, next_lawful, opening_lawful, after_lawful}
-use Rattle.bf_world.proofs.RunLemmas.{run_more, journal_joined}
+use Rattle.bf_world.proofs.LawfulLemmas.{IsLawful, decided_core, core_next, next_lawful, opening_lawful, after_lawful}
+use Rattle.bf_world.proofs.RunLemmas.{ripe_next, quiet_run, run_more, journal_joined}
 use Rattle.bf_world.proofs.EndLemmas.{listed_all}
 use Rattle.bf_world.proofs.DeathLemmas.{live_here, happened_lives, next_lives, live_survivors, after_lives}
 use Rattle.bf_world.proofs.LostLemmas.{AreRanks, lost_first, some_lost}
@@ -73,20 +73,13 @@ next_homes state event filled P homes members = by_decision (may_decide event &&
         (subst (λ (e : Epoch). P e.homes) (sym same.epoch) homes) (subst (λ (e : Epoch). P e.members) (sym same.epoch) (members none)))
     by_decision false quiet = subst (λ (s : State). P s.epoch.homes) (sym (quiet_next state event filled quiet)) (subst (λ (e : Epoch). P e.homes) (sym same.epoch) homes)
 
-module _ {S L M T R : Type 0} (m : Meanings S L M T R) (good : S → Epoch → ℕ → List L → Type 0) (setup : S)
-    (goods : KeepsGood m good setup) (stores : KeepsStored m good setup) where
+module _ {S L M T R : Type 0} (m : Meanings S L M T R) (setup : S) where
   -- the state between an event and the decision that it may bring
   abbrev pub between : Run L T → Event → State
   between run event = happened run.core event (will_be_filled m setup run (actor event))
 
-  pub core_more : (journal : List Event) (event : Event) → core_after m setup (journal ++ event ∷ [])
-      ≡ next (core_after m setup journal) event (will_be_filled m setup (run_after m setup journal) (actor event))
-  core_more journal event = ap (λ r. r.core) (run_more m setup journal event) ∙ core_next m good setup goods stores (run_after m setup journal) event
-
   pub quiet_core : (run : Run L T) (event : Event) → brings_decision m setup run event ≡ false → (next_run m setup run event).core ≡ between run event
-  unfolding brings_decision
-  quiet_core run event quiet =
-      core_next m good setup goods stores run event ∙ quiet_next run.core event (will_be_filled m setup run (actor event)) quiet
+  quiet_core run event quiet = ap (λ r. r.core) (quiet_run m setup run event quiet)
 
   -- events that bring no decision keep the outcome
   pub quiet_outcome : (run : Run L T) (later : List Event) → decides_in m setup run later ≡ false → (run_from m setup run later).core.outcome ≡ run.core.outcome
@@ -115,6 +108,20 @@ module _ {S L M T R : Type 0} (m : Meanings S L M T R) (good : S → Epoch → �
       end_lasts (next_run m setup run event) events outcome
       (ap (λ s. s.outcome) (quiet_core run event (quiet_end run event outcome ends))
       ∙ (same_epoch run.core event (will_be_filled m setup run (actor event))).outcome ∙ ends)
+
+  -- a decision that an event brings
+  pub made_core : (run : Run L T) (event : Event) → brings_decision m setup run event ≡ true
+      → (next_run m setup run event).core ≡ decided (between run event) (decision (between run event))
+  unfolding brings_decision
+  made_core run event decides =
+      let parts = and_parts (may_decide event) (is_ripe (between run event)) decides in
+      ap (λ r. r.core) (ripe_next m setup run event parts.0 parts.1) ∙ decided_core m setup (run_happened m setup run event) (decision (between run event))
+
+module _ {S L M T R : Type 0} (m : Meanings S L M T R) (good : S → Epoch → ℕ → List L → Type 0) (setup : S)
+    (goods : KeepsGood m good setup) (stores : KeepsStored m good setup) where
+  pub core_more : (journal : List Event) (event : Event) → core_after m setup (journal ++ event ∷ [])
+      ≡ next (core_after m setup journal) event (will_be_filled m setup (run_after m setup journal) (actor event))
+  core_more journal event = ap (λ r. r.core) (run_more m setup journal event) ∙ core_next m good setup goods stores (run_after m setup journal) event
 
   -- the homes of the agreed snapshot are ranks
   from_homes : (run : Run L T) (journal : List Event) → IsLawful m good setup goods stores run → is_legal_from m setup run journal ≡ true
@@ -158,58 +165,58 @@ module _ {S L M T R : Type 0} (m : Meanings S L M T R) (good : S → Epoch → �
 
   -- a journal and an event that is legal after it
   module _ (limits : KeepsLimits m setup) (journal : List Event) (event : Event) (legal : is_journal m setup (journal ++ event ∷ []) ≡ true) where
-    legal_parts : (is_journal m setup journal ≡ true) × (is_legal_in m setup (run_after m setup journal) event ≡ true)
+    pub legal_parts : (is_journal m setup journal ≡ true) × (is_legal_in m setup (run_after m setup journal) event ≡ true)
     legal_parts =
         let parts = and_parts (is_journal m setup journal) _ (sym (journal_joined m setup journal (event ∷ [])) ∙ legal) in
         (parts.0, (and_parts (is_legal_in m setup (run_after m setup journal) event) true parts.1).0)
 
-    core_legal : is_legal (core_after m setup journal) event (place (run_after m setup journal) (actor event)) ≡ true
+    pub core_legal : is_legal (core_after m setup journal) event (place (run_after m setup journal) (actor event)) ≡ true
     unfolding is_legal_in
     core_legal = (and_parts (is_legal (core_after m setup journal) event (place (run_after m setup journal) (actor event))) _ legal_parts.1).0
 
-    lawful : IsLawful m good setup goods stores (run_after m setup journal)
+    pub lawful : IsLawful m good setup goods stores (run_after m setup journal)
     lawful = after_lawful m good setup goods stores limits journal legal_parts.0
 
-    same : IsSameEpoch (core_after m setup journal) (between (run_after m setup journal) event)
+    pub same : IsSameEpoch (core_after m setup journal) (between m setup (run_after m setup journal) event)
     same = same_epoch (core_after m setup journal) event (will_be_filled m setup (run_after m setup journal) (actor event))
 
     -- who lives between the event and its decision
-    alive_between : (rank : ℕ) → rank < m.ranks setup → lives (stage (between (run_after m setup journal) event) rank) ≡ not (has_died (journal ++ event ∷ []) rank)
+    pub alive_between : (rank : ℕ) → rank < m.ranks setup → lives (stage (between m setup (run_after m setup journal) event) rank) ≡ not (has_died (journal ++ event ∷ []) rank)
     alive_between rank below =
         sym (next_lives (core_after m setup journal) event (will_be_filled m setup (run_after m setup journal) (actor event)) rank)
         ∙ ap (λ s. lives (stage s rank)) (sym (core_more journal event))
         ∙ after_lives m good setup goods stores (journal ++ event ∷ []) legal rank below
 
-    stays_between : (rank : ℕ) → lives (stage (between (run_after m setup journal) event) rank) ≡ true → not (is_gone (stage (core_after m setup journal) rank)) ≡ true
+    stays_between : (rank : ℕ) → lives (stage (between m setup (run_after m setup journal) event) rank) ≡ true → not (is_gone (stage (core_after m setup journal) rank)) ≡ true
     stays_between rank life =
         live_here (stage (core_after m setup journal) rank)
         (and_parts (lives (stage (core_after m setup journal) rank)) _
         (sym (happened_lives (core_after m setup journal) event (place (run_after m setup journal) (actor event))
         (will_be_filled m setup (run_after m setup journal) (actor event)) core_legal rank) ∙ life)).0
 
-    live_between : (core_after m setup journal).outcome ≡ None → live_members (between (run_after m setup journal) event) ≡ survivors (m.ranks setup) (journal ++ event ∷ [])
+    pub live_between : (core_after m setup journal).outcome ≡ None → live_members (between m setup (run_after m setup journal) event) ≡ survivors (m.ranks setup) (journal ++ event ∷ [])
     live_between none =
-        live_survivors (between (run_after m setup journal) event) (journal ++ event ∷ []) (m.ranks setup) (λ rank. not (is_gone (stage (core_after m setup journal) rank)))
+        live_survivors (between m setup (run_after m setup journal) event) (journal ++ event ∷ []) (m.ranks setup) (λ rank. not (is_gone (stage (core_after m setup journal) rank)))
         (ap (λ e. e.members) same.epoch ∙ lawful.sound.members none
         ∙ ap (λ n. filter (λ rank. not (is_gone (stage (core_after m setup journal) rank))) (range_with_len 0 n)) lawful.steady.ranks)
         alive_between stays_between
 
-    lost_between : (core_after m setup journal).outcome ≡ None → first_lost (between (run_after m setup journal) event)
+    pub lost_between : (core_after m setup journal).outcome ≡ None → first_lost (between m setup (run_after m setup journal) event)
         ≡ first_lost_of (core_after m setup journal).epoch.homes (core_after m setup journal).stored (survivors (m.ranks setup) (journal ++ event ∷ [])) (core_after m setup journal).shift
     lost_between none =
-        let now : State = between (run_after m setup journal) event in
+        let now : State = between m setup (run_after m setup journal) event in
         let agreed : State = core_after m setup journal in
         ap (λ e. first_lost_of e.homes now.stored (live_members now) now.shift) same.epoch
         ∙ ap (λ xs. first_lost_of agreed.epoch.homes xs (live_members now) now.shift) same.stored
         ∙ ap (λ xs. first_lost_of agreed.epoch.homes agreed.stored xs now.shift) (live_between none)
         ∙ ap (first_lost_of agreed.epoch.homes agreed.stored (survivors (m.ranks setup) (journal ++ event ∷ []))) same.shift
 
-    decides_parts : brings_decision m setup (run_after m setup journal) event ≡ true
-        → (may_decide event ≡ true) × ((is_ripe (between (run_after m setup journal) event) ≡ true) × ((core_after m setup journal).outcome ≡ None))
+    pub decides_parts : brings_decision m setup (run_after m setup journal) event ≡ true
+        → (may_decide event ≡ true) × ((is_ripe (between m setup (run_after m setup journal) event) ≡ true) × ((core_after m setup journal).outcome ≡ None))
     unfolding brings_decision
     decides_parts decides =
-        let parts = and_parts (may_decide event) (is_ripe (between (run_after m setup journal) event)) decides in
-        (parts.0, (parts.1, sym same.outcome ∙ running_where_ripe (between (run_after m setup journal) event) parts.1))
+        let parts = and_parts (may_decide event) (is_ripe (between m setup (run_after m setup journal) event)) decides in
+        (parts.0, (parts.1, sym same.outcome ∙ running_where_ripe (between m setup (run_after m setup journal) event) parts.1))
 
     -- a decided loss names the first part whose holders have both died
     pub loses_first : brings_decision m setup (run_after m setup journal) event ≡ true → (time home buddy : ℕ)

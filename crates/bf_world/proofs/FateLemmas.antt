@@ -70,7 +70,7 @@ module _ {S L M T R : Type 0} (m : Meanings S L M T R) (good : S → Epoch → �
   pub has_last : (journal : List Event) → is_some (core_after m setup journal).outcome ≡ true → LastDecision m setup journal
   has_last journal ends = elim (last_of [] journal) [
     | inl quiet ↦ absurd (let e : false ≡ true = ap is_some (sym (ap (λ r. r.core.outcome) (run_joined m setup [] journal)
-        ∙ quiet_outcome m good setup goods stores (run_after m setup []) journal quiet ∙ unended)) ∙ ends in cc)
+        ∙ quiet_outcome m setup (run_after m setup []) journal quiet ∙ unended)) ∙ ends in cc)
     | inr last ↦ last
   ]
 
@@ -87,7 +87,7 @@ module _ {S L M T R : Type 0} (m : Meanings S L M T R) (good : S → Epoch → �
     last_outcome =
         ap (λ told. (core_after m setup told).outcome) whole
         ∙ ap (λ r. r.core.outcome) (run_joined m setup (last.before ++ last.event ∷ []) last.later)
-        ∙ quiet_outcome m good setup goods stores (run_after m setup (last.before ++ last.event ∷ [])) last.later last.last
+        ∙ quiet_outcome m setup (run_after m setup (last.before ++ last.event ∷ [])) last.later last.last
 
     ended_lost : Losses → (home : ℕ) → BothHoldersDied (core_after m setup last.before) (last.before ++ last.event ∷ []) home
         → EndsLost (core_after m setup last.before).epoch.time (core_after m setup journal)
@@ -139,7 +139,7 @@ module _ {S L M T R : Type 0} (m : Meanings S L M T R) (good : S → Epoch → �
       here_legal = (and_parts (is_journal m setup (told ++ event ∷ [])) _
           (sym (journal_joined m setup (told ++ event ∷ []) events) ∙ ap (is_journal m setup) (sym (one_more told event events)) ∙ legal)).0
 
-      same : IsSameEpoch (core_after m setup told) (between m good setup goods stores (run_after m setup told) event)
+      same : IsSameEpoch (core_after m setup told) (between m setup (run_after m setup told) event)
       same = same_epoch (core_after m setup told) event (will_be_filled m setup (run_after m setup told) (actor event))
 
       by_rest : (now : State) → (core_after m setup (told ++ event ∷ [])).epoch ≡ (core_after m setup told).epoch
@@ -160,12 +160,12 @@ module _ {S L M T R : Type 0} (m : Meanings S L M T R) (good : S → Epoch → �
             (
               ends.1.0,
               ap (λ r. r.core.outcome) (run_joined m setup (told ++ event ∷ []) events)
-                  ∙ end_lasts m good setup goods stores (run_after m setup (told ++ event ∷ [])) events _ ends.1.1,
+                  ∙ end_lasts m setup (run_after m setup (told ++ event ∷ [])) events _ ends.1.1,
             ),
           )
       by_decision rest false quiet =
-          let now : core_after m setup (told ++ event ∷ []) ≡ between m good setup goods stores (run_after m setup told) event =
-          ap (λ r. r.core) (run_more m setup told event) ∙ quiet_core m good setup goods stores (run_after m setup told) event quiet in
+          let now : core_after m setup (told ++ event ∷ []) ≡ between m setup (run_after m setup told) event =
+          ap (λ r. r.core) (run_more m setup told event) ∙ quiet_core m setup (run_after m setup told) event quiet in
           by_rest _ (ap (λ s. s.epoch) now ∙ same.epoch)
           (rest (ap (λ s. s.outcome) now ∙ same.outcome ∙ none)
           (both_still_died (core_after m setup told) (core_after m setup (told ++ event ∷ [])) told (event ∷ []) home
@@ -198,4 +198,4 @@ module _ {S L M T R : Type 0} (m : Meanings S L M T R) (good : S → Epoch → �
           (loses_where m good setup goods stores limits (journal ++ more) event legal losses decides home
           (both_still_died (core_after m setup (journal ++ more)) (core_after m setup (journal ++ more)) (journal ++ more) (event ∷ []) home refl refl refl both))
       by_follow (IsOver (lost, (buddy, ends))) =
-          absurd (let e : true ≡ false = sym decides ∙ quiet_end m good setup goods stores (run_after m setup (journal ++ more)) event _ ends in cc)
+          absurd (let e : true ≡ false = sym decides ∙ quiet_end m setup (run_after m setup (journal ++ more)) event _ ends in cc)

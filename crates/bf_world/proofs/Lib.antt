@@ -25,3 +25,4 @@ pub mod DeathLemmas
 pub mod LostLemmas
 pub mod DecisionLemmas
 pub mod FateLemmas
+pub mod SnapshotLemmas

@@ -15,6 +15,7 @@ use Rattle.bf_core.specs.States.{State}
 use Rattle.bf_core.proofs.LawLemmas.{Losses}
 use Rattle.bf_world.specs.Losses.{has_died, survivors, BothHoldersDied, IsFirstLost}
 use Rattle.bf_world.proofs.DeathLemmas.{member_survivors}
+use Rattle.bf_world.proofs.MemberLemmas.{above}
 use Rattle.bf_world.proofs.WaitingLemmas.{below_end}
 
 -- what a search finds among the ranks that pass a test: the first that it looks for
@@ -23,20 +24,7 @@ record IsFirst (test : ℕ → Bool) (xs : List ℕ) (x : ℕ) : Type 0 where
   pub passes : test x ≡ true
   pub first : (other : ℕ) → is_member xs other ≡ true → test other ≡ true → x ≤ other
 
-from_start : (p : ℕ → Bool) (k n y : ℕ) → is_member (filter p (range_with_len k n)) y ≡ true → k ≤ y
-from_start p k zero y member = absurd (cc)
-from_start p k (suc n) y member = by_first (p k) (λ later. from_start p (k + 1) n y later) member
-  where
-    by_head : (b : Bool) → (k == y) ≡ b → (is_member (filter p (range_with_len (k + 1) n)) y ≡ true → k + 1 ≤ y)
-        → (b || is_member (filter p (range_with_len (k + 1) n)) y) ≡ true → k ≤ y
-    by_head true same rest _ = omega (arith, eqb-true k y same)
-    by_head false other rest later = omega (arith, rest later)
-
-    by_first : (b : Bool) → (is_member (filter p (range_with_len (k + 1) n)) y ≡ true → k + 1 ≤ y)
-        → is_member (cond b (k ∷ filter p (range_with_len (k + 1) n)) (filter p (range_with_len (k + 1) n))) y ≡ true → k ≤ y
-    by_first true rest is_in = by_head (k == y) refl rest is_in
-    by_first false rest is_in = omega (arith, rest is_in)
-
+-- a search among the ranks that pass a test finds the first
 found_first : (test p : ℕ → Bool) (k n x : ℕ) → find test (filter p (range_with_len k n)) ≡ Some x → IsFirst test (filter p (range_with_len k n)) x
 found_first test p k zero x found = absurd (cc)
 found_first test p k (suc n) x found = by_first (p k) (test k) refl (found_first test p (k + 1) n x) found
@@ -57,7 +45,7 @@ found_first test p k (suc n) x found = by_first (p k) (test k) refl (found_first
           passes = ap test (sym same) ∙ passes;
           first = λ other member _. elim (by_head other (k == other) refl member) [
             | inl e ↦ omega (arith, e, same)
-            | inr later ↦ omega (arith, same, from_start p (k + 1) n other later)
+            | inr later ↦ omega (arith, same, above p (k + 1) n other later)
           ];
         }
     by_first true false fails rest is_found =

@@ -18,7 +18,7 @@ or_false true b holds fails = absurd (cc)
 or_false false b holds fails = holds
 
 -- the members of a filtered range are not below its beginning
-above : (p : ℕ → Bool) (k n y : ℕ) → is_member (filter p (range_with_len k n)) y ≡ true → k ≤ y
+pub above : (p : ℕ → Bool) (k n y : ℕ) → is_member (filter p (range_with_len k n)) y ≡ true → k ≤ y
 above p k zero y member = absurd (cc)
 above p k (suc n) y member = by_first (p k) refl member (λ later. above p (k + 1) n y later)
   where

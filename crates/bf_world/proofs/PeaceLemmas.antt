@@ -38,6 +38,7 @@ use Rattle.bf_world.specs.Ends.{NobodyDies, tells_of_death}
 use Rattle.bf_world.specs.Runs.{Run, place, will_be_filled, opening_run, next_run, is_legal_in, run_from, is_legal_from, is_journal}
 use Rattle.bf_world.specs.Worlds.{is_restore, brings_decision, brings_restore, restores_from, restores_in}
 use Rattle.bf_world.proofs.LawfulLemmas.{IsLawful, core_next, next_lawful, opening_lawful}
+use Rattle.bf_world.proofs.DeathLemmas.{lives_after}
 use Rattle.bf_world.proofs.WaitingLemmas.{member_below}
 use Rattle.bf_world.proofs.WeightLemmas.{someone_dead}
 
@@ -55,14 +56,6 @@ not_dead Leaving _ = refl
 not_dead Ended _ = refl
 not_dead Dead still = absurd (cc)
 not_dead Gone _ = refl
-
-still_lives : (s : Stage) → lives s ≡ true → lives (after_decision s) ≡ true
-still_lives Running _ = refl
-still_lives (Arrived how filled) _ = refl
-still_lives Leaving _ = refl
-still_lives Ended _ = refl
-still_lives Dead still = absurd (cc)
-still_lives Gone still = absurd (cc)
 
 nobody_dead : (state : State) → IsPeaceful state → Someone is_dead state → ⊥
 nobody_dead state peaceful (rank, (within, dead)) = let e : true ≡ false = sym dead ∙ not_dead (stage state rank) (peaceful.alive rank within) in cc
@@ -115,8 +108,8 @@ dissolved_fated state peaceful rank = ap (λ s. s.death) (get_or-map {A = Standi
 dissolved_alive : (state : State) → IsPeaceful state → (rank : ℕ) → rank < length (dissolved state).standings → lives (stage (dissolved state) rank) ≡ true
 unfolding dissolved
 dissolved_alive state peaceful rank within =
-    ap lives (stage_dissolved state rank)
-    ∙ still_lives (stage state rank) (peaceful.alive rank (omega (arith, within, length-map state.standings (λ (s : Standing). record s { stage = after_decision s.stage }))))
+    ap lives (stage_dissolved state rank) ∙ lives_after (stage state rank)
+    ∙ peaceful.alive rank (omega (arith, within, length-map state.standings (λ (s : Standing). record s { stage = after_decision s.stage })))
 
 ended_peaceful : (state : State) (outcome : Outcome) → ((time home buddy : ℕ) → outcome ≡ outcomes.Lost time home buddy → ⊥) → IsPeaceful state → IsPeaceful (ended state outcome)
 unfolding dissolved

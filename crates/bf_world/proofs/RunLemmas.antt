@@ -1,5 +1,5 @@
 -- The run that a journal tells, once one event more has happened, and how many events it counts.
-use Rattle.std.proofs.Common.{◌≡◌, ℕ, zero, ◌+◌, ◌*◌, ◌≤◌, true, ◌&&◌, List, [], ◌∷◌, ◌++◌, map, length, replicate, get_or, arith, refl, sym, subst, ◌∙◌, ap, inl, inr}
+use Rattle.std.proofs.Common.{◌≡◌, ℕ, zero, ◌+◌, ◌*◌, ◌≤◌, Bool, true, false, ◌&&◌, List, [], ◌∷◌, ◌++◌, map, length, replicate, get_or, arith, refl, sym, subst, ◌∙◌, ap, inl, inr}
 use Rattle.std.specs.Prelude.{◌==◌, if◌then◌else◌}
 use Rattle.std.specs.List.{range_with_len}
 use Rattle.std.specs.Map.{lookup}
@@ -19,7 +19,7 @@ use Rattle.bf_core.specs.Next.{may_decide, is_ripe, decision}
 use Rattle.bf_core.proofs.RoomLemmas.{events_grow, queues_grow}
 use Rattle.bf_core.proofs.StageLemmas.{nobody}
 use Rattle.bf_world.specs.Runs.{Run, will_be_filled, run_happened, run_decided, opening_run, next_run, is_legal_in, run_from, is_legal_from, run_after, is_journal}
-use Rattle.bf_world.specs.Worlds.{brings_restore, restores_from, restores_in}
+use Rattle.bf_world.specs.Worlds.{brings_decision, brings_restore, restores_from, restores_in}
 use Rattle.bf_world.proofs.LawfulLemmas.{core_next}
 
 module _ {S L M T R : Type 0} (m : Meanings S L M T R) (setup : S) where
@@ -28,6 +28,18 @@ module _ {S L M T R : Type 0} (m : Meanings S L M T R) (setup : S) where
       → next_run m setup run event ≡ run_decided m setup (run_happened m setup run event) (decision (run_happened m setup run event).core)
   unfolding next_run
   ripe_next run event may ripe = rw (may, ripe) refl
+
+  -- and one that brings none
+  pub quiet_run : (run : Run L T) (event : Event) → brings_decision m setup run event ≡ false → next_run m setup run event ≡ run_happened m setup run event
+  unfolding next_run brings_decision
+  quiet_run run event quiet = by_event (may_decide event) (is_ripe (run_happened m setup run event).core) quiet
+    where
+      by_event : (may ripe : Bool) → (may && ripe) ≡ false
+          → (if may then (if ripe then run_decided m setup (run_happened m setup run event) (decision (run_happened m setup run event).core) else run_happened m setup run event)
+          else run_happened m setup run event) ≡ run_happened m setup run event
+      by_event true true decides = absurd (cc)
+      by_event true false _ = refl
+      by_event false ripe _ = refl
 
   run_from_joined : (run : Run L T) (journal more : List Event) → run_from m setup run (journal ++ more) ≡ run_from m setup (run_from m setup run journal) more
   run_from_joined run [] more = refl

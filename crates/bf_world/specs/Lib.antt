@@ -10,3 +10,4 @@ pub mod Ends
 pub mod Weights
 pub mod Settled
 pub mod Losses
+pub mod Snapshots

@@ -45,7 +45,7 @@ abbrev pub EndsLost : (time : ℕ) → State → Type 0
 EndsLost time state = (home : ℕ) × ((buddy : ℕ) × (state.outcome ≡ Some (Lost time home buddy)))
 
 module _ {S L M T R : Type 0} (m : Meanings S L M T R) (setup : S) where
-  -- whether some of these events brings a decision
+  -- whether one of these events brings a decision
   abbrev pub decides_in : Run L T → List Event → Bool
   decides_in run [] = false
   decides_in run (event ∷ events) = brings_decision m setup run event || decides_in (next_run m setup run event) events

@@ -9,6 +9,7 @@ mod journal;
 pub mod laws;
 pub mod losses;
 mod queues;
+pub mod snapshots;
 mod steps;
 mod world;
 
