@@ -4,19 +4,26 @@
 //! its death is among the events. The agreed snapshot is that of the last commit before, at first the opening's; its homes
 //! are the ranks that were members when it was agreed, and the holders of a home's part are the home and its buddy among the
 //! homes.
-ghost use Rattle.std.specs.Prelude.{◌≡◌, ◌↔◌, ℕ, IsTrue, List, [], ◌∷◌, ◌++◌, Some, None};
+ghost use Rattle.std.specs.Prelude.{◌≡◌, ◌↔◌, ℕ, ◌<◌, not, IsTrue, List, [], ◌∷◌, ◌++◌, Some, None};
 ghost use Rattle.bf_buddy.specs.Members.{is_member};
 ghost use Rattle.bf_core.specs.declared.event.Event.{Event};
 ghost use Rattle.bf_core.specs.declared.outcome.Outcome.TheVariants.{Lost};
-ghost use Rattle.bf_core.specs.States.{is_finished};
+ghost use Rattle.bf_core.specs.Stages.{lives};
+ghost use Rattle.bf_core.specs.States.{stage, is_finished};
 ghost use Rattle.bf_core.specs.Laws.{OnlyLoses};
-ghost use Rattle.bf_world.specs.Losses.{BothHoldersDied, IsFirstLost, EndsLost, LastDecision};
+ghost use Rattle.bf_world.specs.Losses.{has_died, BothHoldersDied, IsFirstLost, EndsLost, LastDecision};
 ghost use Rattle.bf_world.specs.Runs.{run_after, is_journal};
 ghost use Rattle.bf_world.specs.Worlds.{core_after, brings_decision};
 
 use crate::laws::a_complete_run_has_an_end;
 use bf_buddy::laws::nothing_is_lost_where_holders_live;
 use bf_program::RankProgram;
+
+/// A rank lives exactly where its death is not among the events.
+pub fn a_rank_lives_until_its_death_is_told<P: RankProgram>()
+    ensures { (setup : P.Setup) (journal : List Event) (rank : ℕ) → IsTrue (is_journal P.meanings setup journal) → rank < P.meanings.ranks setup
+        → lives (stage (core_after P.meanings setup journal) rank) ≡ not (has_died journal rank) }
+{}
 
 /// Where some home of the agreed snapshot has a block, a run in which each rank is dead or has ended has a last decision.
 pub fn a_complete_run_has_a_last_decision<P: RankProgram>()
