@@ -120,6 +120,7 @@ member_survivors ranks told rank below =
 
 module _ {S L M T R : Type 0} (m : Meanings S L M T R) (good : S → Epoch → ℕ → List L → Type 0) (setup : S)
     (goods : KeepsGood m good setup) (stores : KeepsStored m good setup) where
+  -- after more events who lived before them lives, but whose death is among them
   from_lives : (run : Run L T) (journal : List Event) → is_legal_from m setup run journal ≡ true → (rank : ℕ)
       → lives (stage (run_from m setup run journal).core rank) ≡ (lives (stage run.core rank) && not (list_any (is_death_of rank) journal))
   unfolding is_legal_in
@@ -139,6 +140,7 @@ module _ {S L M T R : Type 0} (m : Meanings S L M T R) (good : S → Epoch → �
       and_nor true true c = refl
       and_nor true false c = refl
 
+  -- at the opening each rank lives
   opening_lives : (rank : ℕ) → rank < m.ranks setup → lives (stage (opening_run {T = T} m setup).core rank) ≡ true
   unfolding opening_run
   opening_lives rank below =

@@ -30,7 +30,7 @@ use Rattle.bf_world.proofs.DeathLemmas.{live_here, happened_lives, next_lives, l
 use Rattle.bf_world.proofs.LostLemmas.{AreRanks, lost_first, some_lost}
 
 -- an event that brings no decision
-pub quiet_next : (state : State) (event : Event) (filled : Bool) → (may_decide event && is_ripe (happened state event filled)) ≡ false
+quiet_next : (state : State) (event : Event) (filled : Bool) → (may_decide event && is_ripe (happened state event filled)) ≡ false
     → next state event filled ≡ happened state event filled
 quiet_next state event filled quiet = by_event (may_decide event) refl quiet
   where
@@ -39,7 +39,7 @@ quiet_next state event filled quiet = by_event (may_decide event) refl quiet
     by_event false may _ = next_happens state event filled may
 
 -- an event that brings one
-pub decided_next : (state : State) (event : Event) (filled : Bool) → (may_decide event && is_ripe (happened state event filled)) ≡ true
+decided_next : (state : State) (event : Event) (filled : Bool) → (may_decide event && is_ripe (happened state event filled)) ≡ true
     → next state event filled ≡ decided (happened state event filled) (decision (happened state event filled))
 decided_next state event filled decides =
     let parts = and_parts (may_decide event) (is_ripe (happened state event filled)) decides in
@@ -78,6 +78,7 @@ module _ {S L M T R : Type 0} (m : Meanings S L M T R) (setup : S) where
   abbrev pub between : Run L T → Event → State
   between run event = happened run.core event (will_be_filled m setup run (actor event))
 
+  -- it is the state after an event that brings no decision
   pub quiet_core : (run : Run L T) (event : Event) → brings_decision m setup run event ≡ false → (next_run m setup run event).core ≡ between run event
   quiet_core run event quiet = ap (λ r. r.core) (quiet_run m setup run event quiet)
 
@@ -102,6 +103,7 @@ module _ {S L M T R : Type 0} (m : Meanings S L M T R) (setup : S) where
       by_ripe true false _ = refl
       by_ripe false b _ = refl
 
+  -- so an end lasts
   pub end_lasts : (run : Run L T) (later : List Event) (outcome : Outcome) → run.core.outcome ≡ Some outcome → (run_from m setup run later).core.outcome ≡ Some outcome
   end_lasts run [] outcome ends = ends
   end_lasts run (event ∷ events) outcome ends =
@@ -119,7 +121,8 @@ module _ {S L M T R : Type 0} (m : Meanings S L M T R) (setup : S) where
 
 module _ {S L M T R : Type 0} (m : Meanings S L M T R) (good : S → Epoch → ℕ → List L → Type 0) (setup : S)
     (goods : KeepsGood m good setup) (stores : KeepsStored m good setup) where
-  pub core_more : (journal : List Event) (event : Event) → core_after m setup (journal ++ event ∷ [])
+  -- the state after a journal and an event more
+  core_more : (journal : List Event) (event : Event) → core_after m setup (journal ++ event ∷ [])
       ≡ next (core_after m setup journal) event (will_be_filled m setup (run_after m setup journal) (actor event))
   core_more journal event = ap (λ r. r.core) (run_more m setup journal event) ∙ core_next m good setup goods stores (run_after m setup journal) event
 
@@ -137,6 +140,7 @@ module _ {S L M T R : Type 0} (m : Meanings S L M T R) (good : S → Epoch → �
         lawful.sound.members none ∙ ap (λ n. filter (λ rank. not (is_gone (stage run.core rank))) (range_with_len 0 n)) lawful.steady.ranks,
       ))))
 
+  -- at the opening they are all ranks
   opening_homes : AreRanks (opening_run {T = T} m setup).core.epoch.homes (m.ranks setup)
   unfolding opening_run opening
   opening_homes = ((λ _. true), sym (filter_range (λ _. true) 0 (m.ranks setup) (λ r _ _. refl)))
@@ -153,23 +157,15 @@ module _ {S L M T R : Type 0} (m : Meanings S L M T R) (good : S → Epoch → �
       listed_all (core_after m setup journal).epoch.homes (m.stored (run_after m setup journal).start) home (stores.homes _ 0 _ lawful.steady.good_start).1
       (ap (λ xs. is_member xs home) (sym lawful.steady.stored) ∙ stored)
 
-  -- while the run goes on, the members that live are the ranks that have not died
-  live_told : KeepsLimits m setup → (journal : List Event) → is_journal m setup journal ≡ true → (core_after m setup journal).outcome ≡ None
-      → live_members (core_after m setup journal) ≡ survivors (m.ranks setup) journal
-  live_told limits journal legal none =
-      let lawful : IsLawful m good setup goods stores (run_after m setup journal) = after_lawful m good setup goods stores limits journal legal in
-      live_survivors (core_after m setup journal) journal (m.ranks setup) (λ rank. not (is_gone (stage (core_after m setup journal) rank)))
-      (lawful.sound.members none ∙ ap (λ n. filter (λ rank. not (is_gone (stage (core_after m setup journal) rank))) (range_with_len 0 n)) lawful.steady.ranks)
-      (after_lives m good setup goods stores journal legal)
-      (λ rank. live_here (stage (core_after m setup journal) rank))
-
   -- a journal and an event that is legal after it
   module _ (limits : KeepsLimits m setup) (journal : List Event) (event : Event) (legal : is_journal m setup (journal ++ event ∷ []) ≡ true) where
-    pub legal_parts : (is_journal m setup journal ≡ true) × (is_legal_in m setup (run_after m setup journal) event ≡ true)
+    -- both are legal, each in its turn
+    legal_parts : (is_journal m setup journal ≡ true) × (is_legal_in m setup (run_after m setup journal) event ≡ true)
     legal_parts =
         let parts = and_parts (is_journal m setup journal) _ (sym (journal_joined m setup journal (event ∷ [])) ∙ legal) in
         (parts.0, (and_parts (is_legal_in m setup (run_after m setup journal) event) true parts.1).0)
 
+    -- the event is legal for the state machine
     pub core_legal : is_legal (core_after m setup journal) event (place (run_after m setup journal) (actor event)) ≡ true
     unfolding is_legal_in
     core_legal = (and_parts (is_legal (core_after m setup journal) event (place (run_after m setup journal) (actor event))) _ legal_parts.1).0
@@ -177,6 +173,7 @@ module _ {S L M T R : Type 0} (m : Meanings S L M T R) (good : S → Epoch → �
     pub lawful : IsLawful m good setup goods stores (run_after m setup journal)
     lawful = after_lawful m good setup goods stores limits journal legal_parts.0
 
+    -- the event alone keeps what is agreed
     pub same : IsSameEpoch (core_after m setup journal) (between m setup (run_after m setup journal) event)
     same = same_epoch (core_after m setup journal) event (will_be_filled m setup (run_after m setup journal) (actor event))
 
@@ -187,6 +184,7 @@ module _ {S L M T R : Type 0} (m : Meanings S L M T R) (good : S → Epoch → �
         ∙ ap (λ s. lives (stage s rank)) (sym (core_more journal event))
         ∙ after_lives m good setup goods stores (journal ++ event ∷ []) legal rank below
 
+    -- who lives then was not gone before
     stays_between : (rank : ℕ) → lives (stage (between m setup (run_after m setup journal) event) rank) ≡ true → not (is_gone (stage (core_after m setup journal) rank)) ≡ true
     stays_between rank life =
         live_here (stage (core_after m setup journal) rank)
@@ -194,6 +192,7 @@ module _ {S L M T R : Type 0} (m : Meanings S L M T R) (good : S → Epoch → �
         (sym (happened_lives (core_after m setup journal) event (place (run_after m setup journal) (actor event))
         (will_be_filled m setup (run_after m setup journal) (actor event)) core_legal rank) ∙ life)).0
 
+    -- the members that live then are the ranks that have not died
     pub live_between : (core_after m setup journal).outcome ≡ None → live_members (between m setup (run_after m setup journal) event) ≡ survivors (m.ranks setup) (journal ++ event ∷ [])
     live_between none =
         live_survivors (between m setup (run_after m setup journal) event) (journal ++ event ∷ []) (m.ranks setup) (λ rank. not (is_gone (stage (core_after m setup journal) rank)))
@@ -201,6 +200,7 @@ module _ {S L M T R : Type 0} (m : Meanings S L M T R) (good : S → Epoch → �
         ∙ ap (λ n. filter (λ rank. not (is_gone (stage (core_after m setup journal) rank))) (range_with_len 0 n)) lawful.steady.ranks)
         alive_between stays_between
 
+    -- which part is lost then
     pub lost_between : (core_after m setup journal).outcome ≡ None → first_lost (between m setup (run_after m setup journal) event)
         ≡ first_lost_of (core_after m setup journal).epoch.homes (core_after m setup journal).stored (survivors (m.ranks setup) (journal ++ event ∷ [])) (core_after m setup journal).shift
     lost_between none =
@@ -211,6 +211,7 @@ module _ {S L M T R : Type 0} (m : Meanings S L M T R) (good : S → Epoch → �
         ∙ ap (λ xs. first_lost_of agreed.epoch.homes agreed.stored xs now.shift) (live_between none)
         ∙ ap (first_lost_of agreed.epoch.homes agreed.stored (survivors (m.ranks setup) (journal ++ event ∷ []))) same.shift
 
+    -- where the event brings a decision, the run went on before it
     pub decides_parts : brings_decision m setup (run_after m setup journal) event ≡ true
         → (may_decide event ≡ true) × ((is_ripe (between m setup (run_after m setup journal) event) ≡ true) × ((core_after m setup journal).outcome ≡ None))
     unfolding brings_decision

@@ -29,6 +29,7 @@ one_more told event events = sym (append_assoc told (event ∷ []) events)
 still_died : (told more : List Event) (rank : ℕ) → has_died told rank ≡ true → has_died (told ++ more) rank ≡ true
 still_died told more rank died = list_any-append (is_death_of rank) told more ∙ or_left (has_died told rank) _ died
 
+-- so both holders of a part that stays agreed do
 both_still_died : (before after : State) (told more : List Event) (home : ℕ) → after.stored ≡ before.stored → after.epoch ≡ before.epoch → after.shift ≡ before.shift
     → BothHoldersDied before told home → BothHoldersDied after (told ++ more) home
 both_still_died before after told more home stored epoch shift died = record {
@@ -62,6 +63,7 @@ module _ {S L M T R : Type 0} (m : Meanings S L M T R) (good : S → Epoch → �
       by_rest (inl quiet) = by_first quiet (brings_decision m setup (run_after m setup told) event) refl
       by_rest (inr last) = inr (subst (LastDecision m setup) (sym (one_more told event events)) last)
 
+  -- at the opening a run goes on
   unended : (run_after {T = T} m setup []).core.outcome ≡ None
   unfolding run_after opening_run opening
   unended = refl

@@ -70,7 +70,8 @@ buddy_member homes home shift member =
 abbrev pub AreRanks : (homes : List ℕ) (ranks : ℕ) → Type 0
 AreRanks homes ranks = (p : ℕ → Bool) × (homes ≡ filter p (range_with_len 0 ranks))
 
-pub home_below : (homes : List ℕ) (ranks home : ℕ) → AreRanks homes ranks → is_member homes home ≡ true → home < ranks
+-- a home is a rank
+home_below : (homes : List ℕ) (ranks home : ℕ) → AreRanks homes ranks → is_member homes home ≡ true → home < ranks
 home_below homes ranks home among member =
     let below : home < 0 + ranks = below_end among.0 0 ranks home (ap (λ hs. is_member hs home) (sym among.1) ∙ member) in
     omega (arith, below)
@@ -78,6 +79,7 @@ home_below homes ranks home among member =
 -- the parts of an agreed snapshot, seen from a journal
 module _ (agreed : State) (told : List Event) (ranks : ℕ) (among : AreRanks agreed.epoch.homes ranks)
     (listed : (home : ℕ) → is_member agreed.stored home ≡ true → is_member agreed.epoch.homes home ≡ true) where
+  -- a home's part is lost where it has a block and both holders have died
   lost_here : (home : ℕ) → is_member agreed.epoch.homes home ≡ true
       → is_lost agreed.epoch.homes agreed.stored (survivors ranks told) agreed.shift home
       ≡ (is_member agreed.stored home && has_died told home && has_died told (buddy_of agreed.epoch.homes home agreed.shift))

@@ -40,12 +40,14 @@ decided_snapshot state WantMemory other = record { time = refl; homes = refl; st
 decided_snapshot state Commit other = absurd (cc)
 decided_snapshot state Restore other = record { time = refl; homes = refl; stored = refl }
 
+-- what is decided where a restore is
 restore_made : (decides : Bool) (made : Decision) → is_restore decides made ≡ true → (decides ≡ true) × (made ≡ Restore)
 restore_made decides (Lose home buddy) restores = absurd (cc)
 restore_made decides WantMemory restores = absurd (cc)
 restore_made decides Commit restores = absurd (cc)
 restore_made decides Restore restores = (restores, refl)
 
+-- and where a commit is
 commit_made : (decides : Bool) (made : Decision) → is_commit decides made ≡ true → (decides ≡ true) × (made ≡ Commit)
 commit_made decides (Lose home buddy) commits = absurd (cc)
 commit_made decides WantMemory commits = absurd (cc)
@@ -58,7 +60,7 @@ restored_parts : (state : State) → IsSameSnapshot state (decided state Restore
 unfolding decided dissolved
 restored_parts state = (record { time = refl; homes = refl; stored = refl }, (refl, refl))
 
--- a commit after which the run goes on
+-- a commit after which the run goes on is not at the last step
 unended : (state : State) → state.outcome ≡ None → (decided state Commit).outcome ≡ None → (state.epoch.target == state.steps) ≡ false
 unfolding decided dissolved
 unended state none goes_on = by_end (state.epoch.target == state.steps) goes_on
@@ -67,6 +69,7 @@ unended state none goes_on = by_end (state.epoch.target == state.steps) goes_on
     by_end true finished = absurd (cc)
     by_end false _ = refl
 
+-- it begins the epoch after
 committed_epoch : (state : State) → (state.epoch.target == state.steps) ≡ false → (decided state Commit).epoch ≡ (committed state).epoch
 unfolding decided
 committed_epoch state goes_on = ap (λ b. (if b then ended state outcomes.Finished else committed state).epoch) goes_on
@@ -117,7 +120,7 @@ heir_is m good setup parts epoch round locals lives home is_good whole once =
     (sym (parts.given epoch round locals lives once.heir once.given.0 is_good whole once.given.1.1 once.given.1.0 home) ∙ once.given.1.2)).1)
 
 module _ {S L M T R : Type 0} (m : Meanings S L M T R) (setup : S) where
-  -- an event that brings no decision
+  -- an event that brings no decision leaves the run in its epoch
   stays : (run : Run L T) (event : Event) → brings_decision m setup run event ≡ false → StaysInEpoch m setup run (next_run m setup run event)
   stays run event quiet =
       let same : IsSameEpoch run.core (between m setup run event) = same_epoch run.core event (will_be_filled m setup run (actor event)) in
@@ -129,6 +132,7 @@ module _ {S L M T R : Type 0} (m : Meanings S L M T R) (setup : S) where
   stays_told journal event quiet =
       subst (StaysInEpoch m setup (run_after m setup journal)) (sym (run_more m setup journal event)) (stays (run_after m setup journal) event quiet)
 
+  -- an event and the decision that it brings keep the agreed snapshot, where that is no commit
   snapshot_after : (run : Run L T) (event : Event) (made : Decision) → is_commit true made ≡ false
       → IsSameSnapshot run.core (decided (between m setup run event) made)
   snapshot_after run event made other =
