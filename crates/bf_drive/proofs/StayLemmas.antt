@@ -1,6 +1,6 @@
 -- A rank's account stays through another rank's turn.
-use Rattle.std.proofs.Common.{◌≡◌, ◌≢◌, ℕ, ◌<◌, Bool, true, false, ◌&&◌, List, [], ◌∷◌, ◌++◌, length, arith, refl, sym, subst, ◌∙◌, inl, inr}
-use Rattle.std.specs.Prelude.{◌⊎◌, slice_set}
+use Rattle.std.proofs.Common.{◌≡◌, ◌≢◌, ℕ, ◌<◌, true, List, [], ◌∷◌, ◌++◌, length, arith, refl, sym, subst, ◌∙◌, inl, inr}
+use Rattle.std.specs.Prelude.{◌⊎◌, ◌==◌, slice_set}
 use Rattle.std.proofs.Math.ListN.{get_or}
 use Rattle.std.proofs.lemmas.Bool.{cases_eq, and_from, and_parts}
 use Rattle.std.proofs.lemmas.List.{get_or-set_same, get_or-set_other, length-set}
@@ -10,11 +10,13 @@ use Rattle.bf_program.specs.Meanings.{Meanings}
 use Rattle.bf_program.specs.Laws.{KeepsLimits, KeepsGood, KeepsStored, KeepsReads}
 use Rattle.bf_core.specs.declared.event.Event.{Event}
 use Rattle.bf_core.specs.Legal.{actor, is_legal}
-use Rattle.bf_world.specs.Runs.{Run, place, next_run, is_legal_in, run_from, is_legal_from, run_after, is_journal, opening_run}
+use Rattle.bf_world.specs.Runs.{Run, place, will_be_filled, next_run, is_legal_in, run_from, is_legal_from, run_after, is_journal, opening_run}
 use Rattle.bf_world.proofs.LawfulLemmas.{IsLawful, after_lawful}
 use Rattle.bf_world.proofs.RunLemmas.{run_more}
-use Rattle.bf_rank.specs.Ranks.{RankView, sight, Agrees, IsAt}
-use Rattle.bf_rank.proofs.AgreeLemmas.{agrees_other}
+use Rattle.bf_rank.specs.Ranks.{RankView, sight, last_decided, Agrees, IsAt}
+use Rattle.bf_rank.proofs.AgreeLemmas.{agrees_happened, agrees_other}
+use Rattle.bf_rank.proofs.DecidedLemmas.{any_more, arrival_more, arrival_other}
+use Rattle.bf_core.proofs.LawLemmas.{step_of}
 
 module _ {S L M T R : Type 0} (m : Meanings S L M T R) (setup : S) where
   last_legal_from : (run : Run L T) (journal : List Event) (event : Event) → is_legal_from m setup run (journal ++ event ∷ []) ≡ true
@@ -53,6 +55,12 @@ module _ {S L M T R : Type 0} (m : Meanings S L M T R) (good : S → Epoch → �
             let P : Run L T → Type 0 = λ run. Agrees m good setup (sight run view.rank) view view.stand in
             subst P (sym (run_more m setup journal event))
             (agrees_other m good setup saves (run_after m setup journal) event view view.stand at.within lawful.steady.good_start its differs at.agrees);
+        decided = arrival_more m good setup journal (journal ++ event ∷ []) event view view.stand refl
+            (agrees_happened m good setup saves (run_after m setup journal) event view view.stand its differs at.agrees)
+            (arrival_other m good setup (last_decided m setup journal) (run_after m setup journal) event view
+            (step_of (run_after m setup journal).core event (place (run_after m setup journal) (actor event)) (will_be_filled m setup (run_after m setup journal) (actor event)) its)
+            differs at.decided);
+        acted = λ fails. any_more (λ e. actor e == view.rank) journal event (at.acted fails);
       }
 
   -- after a rank's turn all ranks have made all their turns

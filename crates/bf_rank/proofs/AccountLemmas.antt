@@ -1,7 +1,7 @@
 -- What a rank's own events make of its account.
 use Rattle.std.proofs.Common.{◌≡◌, ℕ, zero, suc, ◌+◌, ◌-◌, ◌<◌, ◌≤◌, Bool, true, false, ◌||◌, not, List, [], ◌∷◌, ◌++◌, length, drop, arith, refl, sym, subst, ◌∙◌, ap, inl, inr}
 use Rattle.std.specs.Prelude.{◌==◌, ◌⊎◌, Option, Some, None, Result, Ok, Err, IfOk, IsOk, OnOk, OnErr, is_some, slice_get, if◌then◌else◌, slice_set}
-use Rattle.std.proofs.lemmas.Bool.{eq-eqb, eqb-true, lt-ltb, ne_eqb, and_parts, and_from}
+use Rattle.std.proofs.lemmas.Bool.{eq-eqb, eqb-true, lt-ltb, ne_eqb, and_parts, and_from, both_ways}
 use Rattle.std.proofs.lemmas.List.{get_or-set_same, nil_from_length}
 use Rattle.std.proofs.lemmas.Option.{same_Some}
 use Rattle.bf_program.specs.declared.epoch.Epoch.{Epoch}
@@ -20,7 +20,8 @@ use Rattle.bf_core.specs.declared.standing.Stage.TheVariants.{Running, Arrived, 
 use Rattle.bf_core.specs.Stages.{is_running, is_leaving, is_arrived, goes_on}
 use Rattle.bf_core.specs.Places.{next_send, next_receive, is_past, round_of}
 use Rattle.bf_core.specs.States.{stage, queue, is_due, is_active, has_dead_member, is_short_of_memory}
-use Rattle.bf_core.specs.Legal.{waits, is_empty_from, IsOffered}
+use Rattle.bf_core.specs.Legal.{actor, waits, is_empty_from, IsOffered}
+use Rattle.std.specs.List.{list_any}
 use Rattle.bf_core.specs.Next.{with_stage, happened}
 use Rattle.bf_core.proofs.SoundLemmas.{moved_stage, in_list, leaving_stage}
 use Rattle.bf_core.proofs.StageLemmas.{is_rank}
@@ -45,6 +46,7 @@ use Rattle.bf_rank.specs.declared.stand.Step.TheVariants as steps
 use Rattle.bf_rank.specs.Ranks.{RankView, Sight, sight, IsLocalAt, local_in_round, HasFinished, HasLocal, WillBegin, Agrees, IsAt, IsTurn, IsOfferedSome, TookTurn}
 use Rattle.bf_rank.specs.Steps.{holding, viewed, local_kept, kept, turn_to, MayStep, HasMoved, HasStepped, TakesNext, ComesTo, Begins, HasPassed, IsBeginning, Gives}
 use Rattle.bf_rank.proofs.AgreeLemmas.{agrees_settled}
+use Rattle.bf_rank.proofs.DecidedLemmas.{any_last, unleaving, arrival_more}
 use Rattle.bf_rank.proofs.ArriveLemmas.{done_filled, done_parcel, arrives_done, arrives_with_parcel, waiting_offers_nothing, arrived_offers_nothing}
 use Rattle.bf_rank.proofs.TurnLemmas.{MaySend, may_send}
 
@@ -160,13 +162,18 @@ module _ {S L M T R B U : Type 0} (m : Meanings S L M T R) (regions : Regions S 
       ]
 
   -- what agrees with a rank's own event before any decision agrees after it
-  moved_at : (new : List Event) (event : Event) (view : RankView L) → view.rank < m.ranks setup → new ≡ journal ++ event ∷ []
+  moved_at : (new : List Event) (event : Event) (view : RankView L) → view.rank < m.ranks setup → new ≡ journal ++ event ∷ [] → actor event ≡ view.rank
+      → is_leaving (stage (run_happened m setup run event).core view.rank) ≡ false
       → Agrees m good setup (sight (run_happened m setup run event) view.rank) (kept view) view.stand → IsAt m good setup new (kept view)
-  moved_at new event view ranked more agrees = record {
+  moved_at new event view ranked more its stays agrees = record {
     within = ranked;
     agrees = let P : Run L T → Type 0 = λ r. Agrees m good setup (sight r view.rank) (kept view) view.stand in
         subst P (sym (ap (run_after m setup) more ∙ run_more m setup journal event))
         (agrees_settled m good setup laws.saves run event (kept view) view.stand ranked lawful.steady.good_start agrees);
+    decided = arrival_more m good setup journal new event (kept view) view.stand more agrees (λ leaving. absurd (both_ways _ stays leaving));
+    acted = λ _.
+        let P : List Event → Type 0 = λ j. list_any (λ e. actor e == view.rank) j ≡ true in
+        subst P (sym more) (any_last (λ e. actor e == view.rank) journal event (eq-eqb (actor event) view.rank its));
   }
 
   -- a rank's own event
@@ -179,7 +186,10 @@ module _ {S L M T R B U : Type 0} (m : Meanings S L M T R) (regions : Regions S 
     more = more;
     offered = offered;
     opened = opened;
-    at = moved_at new event view ranked more agrees;
+    at = moved_at new event view ranked more offered.its
+        (let P : ℕ → Type 0 = λ r. is_leaving (stage (run_happened m setup run event).core r) ≡ false in
+        subst P offered.its (unleaving run.core event (place run view.rank) (will_be_filled m setup run (actor event)) offered.legal))
+        agrees;
   }
 
   still_runs : (rank : ℕ) → stage run.core rank ≡ Running → stage (with_stage run.core rank (stage run.core rank)) rank ≡ Running
@@ -384,7 +394,8 @@ module _ {S L M T R B U : Type 0} (m : Meanings S L M T R) (regions : Regions S 
     more = more;
     turn = record { its = refl; offered = inr refl };
     opened = λ opens. absurd (let e : stands.Arrived ≡ stands.Opening = sym stand_is ∙ opens in cc);
-    at = moved_at new (Arrive view.rank Memory) view ranked more
+    at = moved_at new (Arrive view.rank Memory) view ranked more refl
+        (ap is_leaving (moved_stage run.core view.rank (Arrived Memory false) (in_list run.core view.rank runs)).its)
         (let Q : Stand → Type 0 = Agrees m good setup (sight (run_happened m setup run (Arrive view.rank Memory)) view.rank) (kept view) in
         subst Q (sym stand_is)
         (let P : Stage → Type 0 = HasLocal m good setup (sight (run_happened m setup run (Arrive view.rank Memory)) view.rank) (kept view) in
@@ -428,6 +439,8 @@ module _ {S L M T R B U : Type 0} (m : Meanings S L M T R) (regions : Regions S 
         at = record {
           within = may.at.within;
           agrees = (agrees.0, (agrees.1.0, (agrees.1.1.0 ∙ first_at (sight run rank) rank at after passed, (after, (refl, passed.here)))));
+          decided = λ leaving. absurd (both_ways _ (ap is_leaving agrees.0) leaving);
+          acted = λ fails. absurd (cc);
         };
         undue = may.undue;
       }

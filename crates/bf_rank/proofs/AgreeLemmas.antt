@@ -252,11 +252,16 @@ module _ {S L M T R : Type 0} (m : Meanings S L M T R) (good : S → Epoch → �
       by_event true = by_ripe (is_ripe (happened run.core event (will_be_filled m setup run (actor event)))) refl
       by_event false = agrees
 
-  -- another rank's event keeps a rank's account
+  -- another rank's event, before any decision, keeps a rank's account
+  pub agrees_happened : (run : Run L T) (event : Event) (view : RankView L) (stand : Stand) → is_legal run.core event (place run (actor event)) ≡ true → view.rank ≢ actor event
+      → Agrees m good setup (sight run view.rank) view stand → Agrees m good setup (sight (run_happened m setup run event) view.rank) view stand
+  agrees_happened run event view stand legal differs agrees =
+      let P : Sight L → Type 0 = λ seen. Agrees m good setup seen view stand in
+      subst P (sym (same_sight m good setup run event view.rank (step_of run.core event (place run (actor event)) (will_be_filled m setup run (actor event)) legal) differs)) agrees
+
+  -- and so it does with the decision that it may bring
   pub agrees_other : (run : Run L T) (event : Event) (view : RankView L) (stand : Stand) → view.rank < m.ranks setup → good setup run.core.epoch 0 run.start
       → is_legal run.core event (place run (actor event)) ≡ true → view.rank ≢ actor event
       → Agrees m good setup (sight run view.rank) view stand → Agrees m good setup (sight (next_run m setup run event) view.rank) view stand
   agrees_other run event view stand ranked is_good legal differs agrees =
-      agrees_settled run event view stand ranked is_good
-      (let P : Sight L → Type 0 = λ seen. Agrees m good setup seen view stand in
-      subst P (sym (same_sight m good setup run event view.rank (step_of run.core event (place run (actor event)) (will_be_filled m setup run (actor event)) legal) differs)) agrees)
+      agrees_settled run event view stand ranked is_good (agrees_happened run event view stand legal differs agrees)

@@ -15,12 +15,14 @@ use Rattle.bf_core.specs.declared.place.Place.{Place}
 use Rattle.bf_core.specs.declared.place.Place.TheVariants.{Rounds, Past}
 use Rattle.bf_core.specs.declared.standing.Stage.{Stage}
 use Rattle.bf_core.specs.declared.standing.Stage.TheVariants.{Running, Arrived, Leaving, Ended, Dead, Gone}
-use Rattle.bf_core.specs.Stages.{is_running, is_arrived, is_leaving}
+use Rattle.bf_core.specs.Stages.{is_running, is_arrived, is_leaving, is_short, goes_on}
 use Rattle.bf_core.specs.Places.{is_just, next_send, next_receive, is_past}
 use Rattle.bf_core.specs.States.{State, stage, queue, is_active, is_due, has_dead_member, is_short_of_memory}
 use Rattle.bf_core.specs.Legal.{is_legal, is_empty_from, waits, actor, IsOffered}
 use Rattle.bf_world.specs.Runs.{Run, place, will_be_filled, parcel_of, parcel_with}
-use Rattle.bf_rank.specs.Ranks.{Sight, sight, IsLocalAt, IsSaved, HasFinished}
+use Rattle.bf_rank.specs.declared.stand.Stand.{Stand}
+use Rattle.bf_rank.specs.declared.stand.Stand.TheVariants as stands
+use Rattle.bf_rank.specs.Ranks.{RankView, Sight, sight, IsLocalAt, IsSaved, HasFinished, HasArrived, HasLocal, Agrees}
 
 module _ {S L M T R : Type 0} (m : Meanings S L M T R) (good : S → Epoch → ℕ → List L → Type 0) (setup : S) where
   -- the last local tells whether the part of the new snapshot is filled, and gives the parcel
@@ -155,3 +157,37 @@ arrived_offers_nothing core rank place undue arrived event offered = by_event ev
     by_event (Arrive r Memory) same legal = quiet r same legal
     by_event (Leave r) same legal = both_ways (is_leaving (stage core r)) (ap (λ q. is_leaving (stage core q)) same ∙ stays) (and_parts (is_leaving (stage core r)) _ legal).0
     by_event (Die r) same legal = both_ways (is_due core r) (ap (is_due core) same ∙ undue) legal
+
+module _ {S L M T R : Type 0} (m : Meanings S L M T R) (good : S → Epoch → ℕ → List L → Type 0) (setup : S) (saves : KeepsReads m setup) (seen : Sight L) (view : RankView L) where
+  -- what a rank has of which a restore reads what it reads of the local with which the epoch began
+  abbrev HasSaved : Type 0
+  HasSaved = (local : L) × ((view.local ≡ Some local) × IsSaved m good setup seen view.rank local)
+
+  -- whoever has arrived otherwise than for want of memory has it
+  pub arrived_saves : (s : Stage) → is_short s ≡ false → HasArrived m good setup seen view s → HasSaved
+  arrived_saves (Arrived Done filled) fits (local, (its, has)) = (local, (its, saved_done m good setup saves seen view.rank local has))
+  arrived_saves (Arrived Broken filled) fits (local, (its, here)) = (local, (its, saved_at m good setup saves seen view.rank seen.place local here))
+  arrived_saves (Arrived Memory filled) short has = absurd (cc)
+  arrived_saves Running fits has = absurd has
+  arrived_saves Leaving fits has = absurd has
+  arrived_saves Ended fits has = absurd has
+  arrived_saves Dead fits has = absurd has
+  arrived_saves Gone fits has = absurd has
+
+  -- so has each rank in its rounds that has not failed
+  pub stand_saves : (stand : Stand) → goes_on seen.stage ≡ true → is_leaving seen.stage ≡ false → is_short seen.stage ≡ false → (stand ≡ stands.Failed → ⊥)
+      → Agrees m good setup seen view stand → HasSaved
+  stand_saves stands.Opening goes stays fits unfailed agrees = (agrees.1.1.1.0, (agrees.1.1.1.1.0, record { first = agrees.1.1.1.0; its = agrees.1.1.1.1.1; same = refl }))
+  stand_saves (stands.Placed at) goes stays fits unfailed agrees =
+      (agrees.1.1.1.0, (agrees.1.1.1.1.0, saved_at m good setup saves seen view.rank at agrees.1.1.1.0 agrees.1.1.1.1.1))
+  stand_saves stands.Failed goes stays fits unfailed agrees = absurd (unfailed refl)
+  stand_saves stands.Ended goes stays fits unfailed agrees = absurd (both_ways (goes_on seen.stage) agrees goes)
+  stand_saves stands.Arrived goes stays fits unfailed agrees = by_stage seen.stage stays fits agrees
+    where
+      by_stage : (s : Stage) → is_leaving s ≡ false → is_short s ≡ false → HasLocal m good setup seen view s → HasSaved
+      by_stage (Arrived how filled) _ fit has = arrived_saves (Arrived how filled) fit has
+      by_stage Leaving leaves fit has = absurd (cc)
+      by_stage Running _ fit has = absurd has
+      by_stage Ended _ fit has = absurd has
+      by_stage Dead _ fit has = absurd has
+      by_stage Gone _ fit has = absurd has

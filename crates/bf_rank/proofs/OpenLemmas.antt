@@ -3,6 +3,7 @@ use Rattle.std.proofs.Common.{◌≡◌, ℕ, ◌<◌, List, [], arith, refl, ap
 use Rattle.std.specs.Prelude.{◌==◌, Some}
 use Rattle.std.specs.List.{range_with_len}
 use Rattle.std.specs.Map.{lookup}
+use Rattle.std.proofs.lemmas.Bool.{both_ways}
 use Rattle.std.proofs.lemmas.List.FromFn.{get_or-map-range_with_len}
 use Rattle.bf_program.specs.declared.epoch.Epoch.{Epoch}
 use Rattle.bf_program.specs.Epochs.{first_epoch}
@@ -11,6 +12,7 @@ use Rattle.bf_program.specs.Laws.{KeepsReads}
 use Rattle.bf_program.specs.Lockstep.{local_of}
 use Rattle.bf_core.specs.declared.standing.Stage.TheVariants.{Running}
 use Rattle.bf_core.specs.declared.standing.Standing.{Standing}
+use Rattle.bf_core.specs.Stages.{is_leaving}
 use Rattle.bf_core.specs.States.{stage, opening}
 use Rattle.bf_core.proofs.StageLemmas.{nobody}
 use Rattle.bf_world.specs.Runs.{opening_run, run_after}
@@ -32,4 +34,6 @@ module _ {S L M T R : Type 0} (m : Meanings S L M T R) (good : S → Epoch → �
   opens_at rank local epoch ranked is its = record {
     within = ranked;
     agrees = (opening_stage rank ranked, (is, (begins_at m setup (opening_run {T = T} m setup).core (m.opening setup) [] rank ranked, (local, (refl, its)))));
+    decided = λ leaving. absurd (both_ways _ (ap is_leaving (opening_stage rank ranked)) leaving);
+    acted = λ fails. absurd (cc);
   }

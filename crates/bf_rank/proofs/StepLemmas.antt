@@ -1,8 +1,8 @@
 -- A rank's local, step by step through its rounds.
-use Rattle.std.proofs.Common.{◌≡◌, ℕ, zero, suc, ◌+◌, ◌<◌, Bool, true, false, cond, ◌||◌, not, List, [], ◌∷◌, length, take, arith, refl, sym, subst, ◌∙◌, ap}
-use Rattle.std.specs.Prelude.{◌==◌, Some, None, slice_get}
+use Rattle.std.proofs.Common.{◌≡◌, ℕ, zero, suc, ◌+◌, ◌<◌, Bool, true, false, cond, not, List, [], ◌∷◌, length, take, arith, refl, sym, subst, ◌∙◌, ap}
+use Rattle.std.specs.Prelude.{◌==◌, Some, slice_get}
 use Rattle.std.specs.List.{fold}
-use Rattle.std.proofs.lemmas.Bool.{eqb-true, eq-eqb, or_right}
+use Rattle.std.proofs.lemmas.Bool.{eqb-true, eq-eqb}
 use Rattle.std.proofs.lemmas.Option.{same_Some}
 use Rattle.bf_world.proofs.PeerLemmas.{member_at}
 use Rattle.bf_buddy.specs.Members.{is_member}

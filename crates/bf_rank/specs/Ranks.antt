@@ -1,5 +1,6 @@
 -- What a rank holds, as the journal tells it.
 use Rattle.std.specs.Prelude.{◌≡◌, ℕ, ◌<◌, Bool, true, false, cond, nat_lt, IsTrue, ◌⊎◌, ◌==◌, if◌then◌else◌, List, [], ◌∷◌, ◌++◌, length, Option, Some, None}
+use Rattle.std.specs.List.{list_any}
 use Rattle.bf_program.specs.declared.epoch.Epoch.{Epoch}
 use Rattle.bf_program.specs.Meanings.{Meanings}
 use Rattle.bf_program.specs.Lockstep.{local_of, after_sends, after_receives, lockstep}
@@ -13,11 +14,12 @@ use Rattle.bf_core.specs.declared.place.Place.{Place}
 use Rattle.bf_core.specs.declared.place.Place.TheVariants.{Rounds, Past}
 use Rattle.bf_core.specs.declared.standing.Stage.{Stage}
 use Rattle.bf_core.specs.declared.standing.Stage.TheVariants.{Running, Arrived, Leaving, Ended, Dead, Gone}
-use Rattle.bf_core.specs.Stages.{goes_on}
+use Rattle.bf_core.specs.Stages.{is_leaving, goes_on}
 use Rattle.bf_core.specs.States.{stage}
 use Rattle.bf_core.specs.Legal.{actor, is_memory, IsOffered}
 use Rattle.bf_world.specs.Course.{local_at, first_place}
-use Rattle.bf_world.specs.Runs.{Run, place, run_after}
+use Rattle.bf_world.specs.Runs.{Run, place, run_happened, opening_run, next_run, run_after}
+use Rattle.bf_world.specs.Worlds.{brings_decision}
 use Rattle.bf_rank.specs.declared.stand.Stand.{Stand}
 use Rattle.bf_rank.specs.declared.stand.Stand.TheVariants as stands
 use Rattle.bf_rank.specs.declared.stand.Turn.{Turn}
@@ -42,6 +44,17 @@ pub record RankView (L : Type 0) : Type 0 where
   pub local : Option L
   pub epoch : Epoch
   pub stand : Stand
+
+module _ {S L M T R : Type 0} (m : Meanings S L M T R) (setup : S) where
+  -- the run as the last decision that events bring finds it, or the one before where they bring none
+  abbrev pub decided_from : Run L T → List Event → (before : Run L T) → Run L T
+  decided_from run [] before = before
+  decided_from run (event ∷ events) before =
+      decided_from (next_run m setup run event) events (if brings_decision m setup run event then run_happened m setup run event else before)
+
+  -- the run as the last decision of a journal found it: each live member had arrived
+  unfoldable pub last_decided : List Event → Run L T
+  last_decided journal = decided_from (opening_run m setup) journal (opening_run m setup)
 
 module _ {S L M T R : Type 0} (m : Meanings S L M T R) (good : S → Epoch → ℕ → List L → Type 0) (setup : S) where
   -- a member's local of the lockstep after so many sends of the round, or after all of them and so many receives
@@ -81,12 +94,22 @@ module _ {S L M T R : Type 0} (m : Meanings S L M T R) (good : S → Epoch → �
   WillBegin true seen rank local =
       IsRestoring m good setup seen.epoch rank local × (local_of seen.epoch.members seen.start rank ≡ Some (m.restore setup local rank seen.epoch))
 
-  -- what a rank has that has arrived, by its stage: done, the last local less the parcel that it has given; broken, its local at
-  -- its place; nothing is said where it wanted memory, nor of a run that has ended otherwise than finished
+  -- what a rank has with which it has arrived, by its stage: done, the last local less the parcel that it has given; broken, its local
+  -- at its place; nothing is said where it wanted memory
+  abbrev pub HasArrived : Sight L → RankView L → Stage → Type 0
+  HasArrived seen view (Arrived Done filled) = (local : L) × ((view.local ≡ Some local) × HasFinished seen view.rank local)
+  HasArrived seen view (Arrived Broken filled) = (local : L) × ((view.local ≡ Some local) × IsLocalAt seen view.rank seen.place local)
+  HasArrived seen view (Arrived Memory filled) = Unit {0}
+  HasArrived seen view Running = ⊥
+  HasArrived seen view Leaving = ⊥
+  HasArrived seen view Ended = ⊥
+  HasArrived seen view Dead = ⊥
+  HasArrived seen view Gone = ⊥
+
+  -- what a rank has from its arrival until it leaves: that with which it has arrived; once the epoch is decided, what the next begins
+  -- with, or the last local of a finished run
   abbrev pub HasLocal : Sight L → RankView L → Stage → Type 0
-  HasLocal seen view (Arrived Done filled) = (local : L) × ((view.local ≡ Some local) × HasFinished seen view.rank local)
-  HasLocal seen view (Arrived Broken filled) = (local : L) × ((view.local ≡ Some local) × IsLocalAt seen view.rank seen.place local)
-  HasLocal seen view (Arrived Memory filled) = Unit {0}
+  HasLocal seen view (Arrived how filled) = HasArrived seen view (Arrived how filled)
   HasLocal seen view Leaving =
       (seen.outcome ≡ None → (seen.place ≡ first_place m setup seen.epoch seen.start view.rank)
       × ((local : L) × ((view.local ≡ Some local) × WillBegin seen.epoch.restored seen view.rank local)))
@@ -112,6 +135,11 @@ module _ {S L M T R : Type 0} (m : Meanings S L M T R) (good : S → Epoch → �
   pub record IsAt (journal : List Event) (view : RankView L) : Type 0 where
     pub within : view.rank < m.ranks setup
     pub agrees : Agrees (sight (run_after m setup journal) view.rank) view view.stand
+    -- one that must leave still has what it had when its epoch was decided
+    pub decided : IsTrue (is_leaving (stage (run_after m setup journal).core view.rank))
+        → HasArrived (sight (last_decided m setup journal) view.rank) view (stage (last_decided m setup journal).core view.rank)
+    -- one that has failed did so in an event of its own
+    pub acted : view.stand ≡ stands.Failed → IsTrue (list_any (λ event. actor event == view.rank) journal)
 
   -- an event that a turn of a rank may add: one that it is offered, or an arrival for want of memory
   pub record IsTurn (journal : List Event) (rank : ℕ) (event : Event) : Type 0 where

@@ -2,6 +2,7 @@
 #![tactic(auto)]
 
 mod giving;
+pub mod laws;
 mod leaving;
 mod rank;
 mod receiving;

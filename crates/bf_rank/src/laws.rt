@@ -1,0 +1,27 @@
+//! Laws of every rank, each the contract of a call that does nothing.
+ghost use Rattle.std.specs.Prelude.{◌≡◌, ◌≢◌, false, IsTrue, List, Some};
+ghost use Rattle.bf_core.specs.declared.event.Event.{Event};
+ghost use Rattle.bf_core.specs.Stages.{is_leaving, is_short, goes_on};
+ghost use Rattle.bf_core.specs.States.{stage};
+ghost use Rattle.bf_world.specs.Runs.{run_after};
+ghost use Rattle.bf_rank.specs.Ranks.{RankView, IsAt, IsSaved, sight, last_decided};
+ghost use Rattle.bf_rank.specs.declared.stand.Stand.TheVariants.{Failed};
+
+use bf_program::RankProgram;
+
+/// A restore reads of a rank's local what it reads of the local with which the rank's epoch began, until the epoch is
+/// decided and unless the rank has found no memory.
+pub fn a_rank_keeps_what_a_restore_reads<P: RankProgram>()
+    ensures { (setup : P.Setup) (journal : List Event) (view : RankView P.Local) → IsAt P.meanings P.good setup journal view
+        → IsTrue (goes_on (stage (run_after P.meanings setup journal).core view.rank)) → is_leaving (stage (run_after P.meanings setup journal).core view.rank) ≡ false
+        → is_short (stage (run_after P.meanings setup journal).core view.rank) ≡ false → view.stand ≢ Failed
+        → (local : P.Local) × ((view.local ≡ Some local) × IsSaved P.meanings P.good setup (sight (run_after P.meanings setup journal) view.rank) view.rank local) }
+{}
+
+/// A rank that must leave still keeps what a restore reads of the local with which the decided epoch began, unless it
+/// arrived for want of memory.
+pub fn a_rank_that_must_leave_keeps_what_a_restore_reads<P: RankProgram>()
+    ensures { (setup : P.Setup) (journal : List Event) (view : RankView P.Local) → IsAt P.meanings P.good setup journal view
+        → IsTrue (is_leaving (stage (run_after P.meanings setup journal).core view.rank)) → is_short (stage (last_decided P.meanings setup journal).core view.rank) ≡ false
+        → (local : P.Local) × ((view.local ≡ Some local) × IsSaved P.meanings P.good setup (sight (last_decided P.meanings setup journal) view.rank) view.rank local) }
+{}
