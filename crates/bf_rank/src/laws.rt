@@ -3,11 +3,12 @@ ghost use Rattle.std.specs.Prelude.{◌≡◌, ◌≢◌, false, IsTrue, List, S
 ghost use Rattle.bf_core.specs.declared.event.Event.{Event};
 ghost use Rattle.bf_core.specs.Stages.{is_leaving, is_short, goes_on};
 ghost use Rattle.bf_core.specs.States.{stage};
-ghost use Rattle.bf_world.specs.Runs.{run_after};
+ghost use Rattle.bf_world.specs.Runs.{run_after, is_journal};
 ghost use Rattle.bf_rank.specs.Ranks.{RankView, IsAt, IsSaved, sight, last_decided};
 ghost use Rattle.bf_rank.specs.declared.stand.Stand.TheVariants.{Failed};
 
 use bf_program::RankProgram;
+use bf_world::laws::each_epoch_begins_good;
 
 /// A restore reads of a rank's local what it reads of the local with which the rank's epoch began, until the epoch is
 /// decided and unless the rank has found no memory.
@@ -25,3 +26,11 @@ pub fn a_rank_that_must_leave_keeps_what_a_restore_reads<P: RankProgram>()
         → IsTrue (is_leaving (stage (run_after P.meanings setup journal).core view.rank)) → is_short (stage (last_decided P.meanings setup journal).core view.rank) ≡ false
         → (local : P.Local) × ((view.local ≡ Some local) × IsSaved P.meanings P.good setup (sight (last_decided P.meanings setup journal) view.rank) view.rank local) }
 {}
+
+/// The members' locals were good when the epoch began that was decided last.
+pub fn the_decided_epoch_began_good<P: RankProgram>()
+    ensures { (setup : P.Setup) (journal : List Event) → IsTrue (is_journal P.meanings setup journal)
+        → P.good setup (last_decided P.meanings setup journal).core.epoch 0 (last_decided P.meanings setup journal).start }
+{
+    each_epoch_begins_good::<P>();
+}
