@@ -1,2 +1,3 @@
--- What a finished run of the forest leaves.
+-- What a run of the forest leaves.
 pub mod Parcels
+pub mod Held

@@ -1,5 +1,5 @@
 //! What comes of a case that is run by its ranks, each law the contract of a call that does nothing.
-ghost use Rattle.std.specs.Prelude.{◌≡◌, ◌⊎◌, ℕ, IsTrue, IsPermutation, List, [], Some, is_some, map};
+ghost use Rattle.std.specs.Prelude.{◌≡◌, ◌⊎◌, ℕ, IsTrue, IsPermutation, List, [], Some, None, is_some, map};
 ghost use Rattle.std.specs.List.{flat_map, list_any};
 ghost use Rattle.std.specs.List.Sorted.{IsNonDecreasingBy};
 ghost use Rattle.bf_case.specs.declared.case.Case.{Case};
@@ -17,10 +17,18 @@ ghost use Rattle.bf_forest.specs.declared.setup.Setup.{Setup};
 ghost use Rattle.bf_forest.specs.Setup.{case_of};
 ghost use Rattle.bf_forest.specs.Leaves.{AreLeaves, bare_blocks};
 ghost use Rattle.bf_forest.specs.Meanings.{forest};
+ghost use Rattle.bf_rank.specs.Ranks.{last_decided};
+ghost use Rattle.bf_driven.specs.Held.{IsHeld, IsHolder, MustLeave, HadMemory, agreed_side};
 ghost use Rattle.bf_driven.specs.Parcels.{blocks_of};
 
 use bf_forest::Forest;
-use bf_forest::laws::{some_home_has_a_block, the_blocks_are_the_models_leaves};
+use bf_forest::laws::{
+    good_vectors_are_those_dealt, some_home_has_a_block, the_blocks_are_the_models_leaves,
+};
+use bf_rank::laws::{
+    a_rank_keeps_what_a_restore_reads, a_rank_that_must_leave_keeps_what_a_restore_reads,
+    the_decided_epoch_began_good,
+};
 use bf_world::laws::{
     a_complete_run_has_an_end, a_complete_run_without_deaths_ends, a_finished_run_has_every_parcel,
     a_finished_run_is_at_its_end, each_epoch_begins_good, the_last_locals_are_good,
@@ -47,6 +55,30 @@ pub fn each_epoch_begins_with_the_agreed_map()
 {
     each_epoch_begins_good::<Forest>();
     the_blocks_are_the_models_leaves();
+}
+
+/// While a run goes on, each rank that does, and hasn't wanted memory, has its parts of the agreed snapshot: its own, and a copy of
+/// that of the home whose buddy it is. Where a commit agreed on it and the rank hasn't left yet, they are on its spare side; else on
+/// the active one [agreed]. Once the run has finished, they are on the spare side until the rank leaves [finished]. Until a rank leaves an
+/// epoch that was decided, its active side has its parts of the snapshot that was agreed before [before]. All ranks have them by the same
+/// homes of the leaves.
+pub fn each_rank_holds_its_parts_of_the_agreed_snapshot()
+    ensures agreed { (setup : Setup) (journal : List Event) → IsTrue (is_journal forest setup journal) → (core_after forest setup journal).outcome ≡ None
+        → IsHeld (case_of setup) (core_after forest setup journal).epoch.time (core_after forest setup journal).epoch.homes
+        (agreed_side (core_after forest setup journal)) (IsHolder setup journal) }
+    ensures finished { (setup : Setup) (journal : List Event) → IsTrue (is_journal forest setup journal) → (core_after forest setup journal).outcome ≡ Some Finished
+        → IsHeld (case_of setup) (core_after forest setup journal).epoch.target (core_after forest setup journal).epoch.members
+        (λ rank buffers. buffers.spare) (MustLeave setup journal) }
+    ensures before { (setup : Setup) (journal : List Event) → IsTrue (is_journal forest setup journal)
+        → IsHeld (case_of setup) (last_decided forest setup journal).core.epoch.time (last_decided forest setup journal).core.epoch.homes
+        (λ rank buffers. buffers.active) (HadMemory setup journal) }
+{
+    each_epoch_begins_good::<Forest>();
+    the_last_locals_are_good::<Forest>();
+    the_decided_epoch_began_good::<Forest>();
+    good_vectors_are_those_dealt();
+    a_rank_keeps_what_a_restore_reads::<Forest>();
+    a_rank_that_must_leave_keeps_what_a_restore_reads::<Forest>();
 }
 
 /// Blocks that are the leaves of a map of the model, put in rising order of their roots, are the map.
