@@ -1,5 +1,4 @@
 pub mod AgreeLemmas
-pub mod StepLemmas
 pub mod TurnLemmas
 pub mod ArriveLemmas
 pub mod DecidedLemmas

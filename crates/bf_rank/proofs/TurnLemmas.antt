@@ -16,7 +16,7 @@ use Rattle.bf_world.proofs.PlaceLemmas.{IsInRound, receives_at}
 use Rattle.bf_world.proofs.PeerLemmas.{peers_of, peers_apart}
 use Rattle.bf_world.proofs.MessageLemmas.{message_of}
 use Rattle.bf_rank.specs.Ranks.{Sight, IsLocalAt}
-use Rattle.bf_rank.proofs.StepLemmas.{is_first, sending, receiving, finishing, sends_more, message_next, receives_more, receives_none, next_local}
+use Rattle.bf_world.proofs.StepLemmas.{is_first, sending, receiving, finishing, sends_more, message_next, receives_more, receives_none, next_local}
 
 module _ {S L M T R : Type 0} (m : Meanings S L M T R) (good : S → Epoch → ℕ → List L → Type 0) (setup : S) (goods : KeepsGood m good setup) (peers_kept : KeepsPeers m good setup)
     (seen : Sight L) (is_good : good setup seen.epoch 0 seen.start) (rank : ℕ) where

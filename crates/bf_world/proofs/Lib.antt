@@ -4,6 +4,7 @@ pub mod LawfulLemmas
 pub mod MemberLemmas
 pub mod OnceLemmas
 pub mod PeerLemmas
+pub mod StepLemmas
 pub mod MessageLemmas
 pub mod HoldLemmas
 pub mod WaitingLemmas

@@ -82,7 +82,8 @@ among_all (suc count) (x ∷ xs) y member = by_first (λ later. among_all count 
     by_first rest true _ = refl
     by_first rest false later = rest later
 
-option_cases : {X : Type 0} (o : Option X) → (o ≡ None) ⊎ ((x : X) × (o ≡ Some x))
+-- what may be there is there or not
+pub option_cases : {X : Type 0} (o : Option X) → (o ≡ None) ⊎ ((x : X) × (o ≡ Some x))
 option_cases None = inl refl
 option_cases (Some x) = inr (x, refl)
 
@@ -92,7 +93,8 @@ module _ {S L M T R : Type 0} (m : Meanings S L M T R) (setup : S) (epoch : Epoc
   unfolding peers_at
   peers_of rank round local its = rw its refl
 
-  no_peers : (rank round : ℕ) → local_at m setup epoch start rank round ≡ None → peers_at m setup epoch start rank round ≡ []
+  -- a rank with no local has none
+  pub no_peers : (rank round : ℕ) → local_at m setup epoch start rank round ≡ None → peers_at m setup epoch start rank round ≡ []
   unfolding peers_at
   no_peers rank round none = rw none refl
 

@@ -60,7 +60,7 @@ stays_member Ended still = absurd (cc)
 stays_member Dead still = absurd (cc)
 stays_member Gone still = absurd (cc)
 
-unopened : (s : Stage) → is_open s ≡ false → is_arrived s ≡ false
+pub unopened : (s : Stage) → is_open s ≡ false → is_arrived s ≡ false
 unopened Running still = absurd (cc)
 unopened (Arrived how filled) still = absurd (cc)
 unopened Leaving _ = refl
@@ -187,7 +187,7 @@ module _ {S L M T R : Type 0} (m : Meanings S L M T R) (setup : S) where
       moved = moved_stage run.core rank Dead within
 
   -- after an event, before any decision
-  happened_given : (run : Run L T) (event : Event) → is_legal run.core event (place run (actor event)) ≡ true → IsGiven run → IsGiven (run_happened m setup run event)
+  pub happened_given : (run : Run L T) (event : Event) → is_legal run.core event (place run (actor event)) ≡ true → IsGiven run → IsGiven (run_happened m setup run event)
   unfolding parcel_of last_locals
   happened_given run (Send rank to blocks sum) legal given =
       let runs : stage run.core rank ≡ Running = acting run.core rank (and_parts (is_active run.core rank) _ legal).0 in
@@ -313,7 +313,7 @@ module _ {S L M T R : Type 0} (m : Meanings S L M T R) (good : S → Epoch → �
       begun_result run (restored run.core) (restored_locals m setup run.core.epoch (λ rank. lives (stage run.core rank)) run.start) [] none refl (stage_dissolved run.core)
 
   -- who has arrived done is a member
-  done_members : (run : Run L T) (event : Event) → IsLawful m good setup goods stores run → is_legal run.core event (place run (actor event)) ≡ true
+  pub done_members : (run : Run L T) (event : Event) → IsLawful m good setup goods stores run → is_legal run.core event (place run (actor event)) ≡ true
       → is_ripe (run_happened m setup run event).core ≡ true → decision (run_happened m setup run event).core ≡ Commit
       → (rank : ℕ) → is_member (run_happened m setup run event).core.epoch.members rank ≡ has_finished_rounds (stage (run_happened m setup run event).core rank)
   done_members run event lawful legal ripe commits rank =
@@ -350,7 +350,7 @@ module _ {S L M T R : Type 0} (m : Meanings S L M T R) (good : S → Epoch → �
       by_done false undone true is = absurd (let e : true ≡ false = sym (finishes is) ∙ undone in cc)
       by_done false undone false is = refl
 
-  unripe_next : (run : Run L T) (event : Event) → (may_decide event && is_ripe (run_happened m setup run event).core) ≡ false → next_run m setup run event ≡ run_happened m setup run event
+  pub unripe_next : (run : Run L T) (event : Event) → (may_decide event && is_ripe (run_happened m setup run event).core) ≡ false → next_run m setup run event ≡ run_happened m setup run event
   unfolding next_run
   unripe_next run event unripe = by_event (may_decide event) unripe
     where
@@ -396,7 +396,7 @@ module _ {S L M T R : Type 0} (m : Meanings S L M T R) (good : S → Epoch → �
         (sym (unopened (stage run.core rank) (lawful.sound.over outcome ends rank)))) (result.finished finishes);
   }
 
-  next_result : (run : Run L T) (event : Event) → IsLawful m good setup goods stores run → is_legal_in m setup run event ≡ true → IsResult run → IsResult (next_run m setup run event)
+  pub next_result : (run : Run L T) (event : Event) → IsLawful m good setup goods stores run → is_legal_in m setup run event ≡ true → IsResult run → IsResult (next_run m setup run event)
   unfolding is_legal_in
   next_result run event lawful legal result = by_outcome run.core.outcome refl
     where
@@ -436,7 +436,7 @@ module _ {S L M T R : Type 0} (m : Meanings S L M T R) (good : S → Epoch → �
           (over_result run event outcome lawful core_legal ends result)
       by_outcome None none = by_ripe none (may_decide event) refl (is_ripe (run_happened m setup run event).core) refl
 
-  opening_result : IsResult (opening_run m setup)
+  pub opening_result : IsResult (opening_run m setup)
   unfolding opening_run opening
   opening_result = going_result (opening_run m setup) refl (record {
     arrivals = [];
