@@ -1,0 +1,2 @@
+-- Owners of the pieces of the domain, as the journal tells them.
+pub mod Owners

@@ -1,0 +1,95 @@
+-- Who owns which pieces of the domain, by the journal and by what waits.
+use Rattle.std.specs.Prelude.{◌≡◌, ℕ, false, cond, nat_lt, ◌⊎◌, ◌==◌, if◌then◌else◌, List, [], ◌++◌, length, filter, Option, Some, None, is_some}
+use Rattle.std.specs.List.{flat_map, range_with_len, sum_by}
+use Rattle.std.specs.Option.{option_map}
+use Rattle.bf_program.specs.declared.epoch.Epoch.{Epoch}
+use Rattle.bf_program.specs.Meanings.{Meanings, Regions}
+use Rattle.bf_program.specs.Laws.{times}
+use Rattle.bf_program.specs.Lockstep.{local_of, after_sends, after_receives, lockstep}
+use Rattle.bf_core.specs.declared.event.How.TheVariants.{Done, Broken, Memory}
+use Rattle.bf_core.specs.declared.outcome.Outcome.TheVariants.{Finished}
+use Rattle.bf_core.specs.declared.place.Place.{Place}
+use Rattle.bf_core.specs.declared.place.Place.TheVariants.{Rounds, Past}
+use Rattle.bf_core.specs.declared.standing.Stage.{Stage}
+use Rattle.bf_core.specs.declared.standing.Stage.TheVariants.{Running, Arrived, Leaving, Ended, Dead, Gone}
+use Rattle.bf_core.specs.Stages.{lives}
+use Rattle.bf_core.specs.States.{State, stage, has_dead_member, is_short_of_memory}
+use Rattle.bf_world.specs.Course.{local_at}
+use Rattle.bf_world.specs.Queues.{messages}
+use Rattle.bf_world.specs.Runs.{Run, place, last_local, run_after}
+use Rattle.bf_world.specs.Worlds.{View, core_after}
+
+module _ {S L M T R : Type 0} (m : Meanings S L M T R) (setup : S) (epoch : Epoch) (start : List L) where
+  -- a rank's local of the lockstep after so many sends of a round, or after all of them and so many receives
+  abbrev pub local_in_round : (rank round sent received : ℕ) (peers : List ℕ) → L → L
+  local_in_round rank round sent received peers first =
+      cond (nat_lt sent (length peers)) (after_sends m setup epoch round first sent)
+      (after_receives m setup epoch round (lockstep m setup epoch start round) rank first received)
+
+  -- a rank's local of the lockstep where it stands at a place; none if it is no member
+  unfoldable pub local_in_place : (rank : ℕ) → Place → Option L
+  local_in_place rank (Rounds round sent received peers) =
+      option_map (local_in_round rank round sent received peers) (local_at m setup epoch start rank round)
+  local_in_place rank Past = local_at m setup epoch start rank (m.rounds setup epoch)
+
+module _ {S L M T R : Type 0} (m : Meanings S L M T R) (setup : S) (run : Run L T) where
+  -- a rank's local of the lockstep where it stands in a run
+  abbrev pub local_here : (rank : ℕ) → Option L
+  local_here rank = local_in_place m setup run.core.epoch run.start rank (place run rank)
+
+  -- what is left of the last local of a rank that has arrived done: in the last epoch it has given its parcel
+  abbrev pub local_left : L → L
+  local_left last = if run.core.epoch.target == run.core.steps then (m.parcel last).0 else last
+
+  -- the local that a rank has by its stage, and where it must leave, that with which it begins the next epoch, if there is one;
+  -- who has arrived for want of memory has none
+  abbrev pub local_by : (rank : ℕ) → Stage → Option L
+  local_by rank Running = local_here rank
+  local_by rank (Arrived Done filled) = option_map local_left (last_local m setup run rank)
+  local_by rank (Arrived Broken filled) = local_here rank
+  local_by rank (Arrived Memory filled) = None
+  local_by rank Leaving = if is_some run.core.outcome then None else local_of run.core.epoch.members run.start rank
+  local_by rank Ended = None
+  local_by rank Dead = None
+  local_by rank Gone = None
+
+module _ {S L M T R B U : Type 0} (m : Meanings S L M T R) (regions : Regions S L M T R B U) (view : View S M T) where
+  abbrev pub boxes_of : Option L → List B
+  boxes_of (Some local) = regions.of_local local
+  boxes_of None = []
+
+  -- the boxes of the local that a rank has
+  unfoldable pub held : (rank : ℕ) → List B
+  held rank =
+      let run = run_after m view.setup view.journal in
+      boxes_of (local_by m view.setup run rank (stage run.core rank))
+
+  -- those of the messages that wait for it
+  unfoldable pub awaited : (rank : ℕ) → List B
+  awaited rank = flat_map (λ from. flat_map regions.of_message (messages view.waiting from rank)) (range_with_len 0 (m.ranks view.setup))
+
+  -- those of the parcel that it has given
+  unfoldable pub given : (rank : ℕ) → List B
+  given rank = flat_map (λ parcel. regions.of_part parcel.1) (filter (λ parcel. parcel.0 == rank) view.parcels)
+
+  -- the boxes that a rank owns
+  abbrev pub owned : (rank : ℕ) → List B
+  owned rank = held rank ++ (awaited rank ++ given rank)
+
+  -- how often some ranks together own a unit
+  abbrev pub times_owned : (ranks : List ℕ) → U → ℕ
+  times_owned ranks unit = sum_by (λ rank. times regions (owned rank) unit) ranks
+
+module _ {S L M T R : Type 0} (m : Meanings S L M T R) (view : View S M T) where
+  abbrev pub all_ranks : List ℕ
+  all_ranks = range_with_len 0 (m.ranks view.setup)
+
+  -- the ranks that live
+  abbrev pub live_ranks : List ℕ
+  live_ranks = filter (λ rank. lives (stage (core_after m view.setup view.journal) rank)) all_ranks
+
+-- a run that has finished, or that goes on with every member alive, and none arrived for want of memory
+abbrev pub IsUnhurt : State → Type 0
+IsUnhurt state =
+    (state.outcome ≡ Some Finished)
+    ⊎ ((state.outcome ≡ None) × ((has_dead_member state ≡ false) × (is_short_of_memory state ≡ false)))
