@@ -22,7 +22,7 @@ use Rattle.bf_world.proofs.PeerLemmas.{option_cases, among_all, member_at, peers
 use Rattle.bf_world.proofs.PlaceLemmas.{IsPlaced}
 use Rattle.bf_world.proofs.StepLemmas.{sending, receiving, finishing, sends_more, message_next, receives_more, receives_none, next_local}
 use Rattle.std.specs.Option.{option_map}
-use Rattle.bf_owners.specs.Owners.{local_in_round, local_in_place}
+use Rattle.bf_owners.specs.Owners.{local_in_round, local_at_place}
 use Rattle.bf_owners.proofs.SumLemmas.{sum_alike, sum_both, sum_listed}
 
 -- what may be there weighs what it holds
@@ -251,11 +251,11 @@ module _ {S L M T R B U : Type 0} (m : Meanings S L M T R) (regions : Regions S 
 
     -- where a rank stands
     pub place_weighs : (rank : ℕ) (place : Place) → IsPlaced m setup epoch start rank place
-        → weight_with local_weight (local_in_place m setup epoch start rank place)
+        → weight_with local_weight (local_at_place m setup epoch start rank place)
         + sum_by (λ to. messages_weight (sent_to m setup epoch start rank to place)) (range_with_len 0 ranks)
         ≡ weight_with local_weight (local_of epoch.members start rank)
         + sum_by (λ from. messages_weight (received_from m setup epoch start rank from place)) (range_with_len 0 ranks)
-    unfolding local_in_place sent_to received_from
+    unfolding local_at_place sent_to received_from
     place_weighs rank Past placed = rounds_weigh rank (m.rounds setup epoch) (omega arith)
     place_weighs rank (Rounds round sent received here) placed = elim (option_cases (local_at m setup epoch start rank round)) [
       | inl none ↦

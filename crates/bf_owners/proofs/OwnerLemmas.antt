@@ -36,7 +36,7 @@ use Rattle.bf_world.proofs.MemberLemmas.{Apart}
 use Rattle.bf_world.proofs.MessageLemmas.{sent_at_first, received_at_first}
 use Rattle.bf_world.proofs.QueueLemmas.{messages_of_none}
 use Rattle.bf_world.proofs.ResultLemmas.{gives, IsGiven, IsResult, after_result}
-use Rattle.bf_owners.specs.Owners.{local_in_round, local_in_place, local_here, local_by, boxes_of, held, awaited, given, owned, times_owned, all_ranks, live_ranks, IsUnhurt}
+use Rattle.bf_owners.specs.Owners.{local_in_round, local_at_place, local_here, local_by, boxes_of, held, awaited, given, owned, times_owned, all_ranks, live_ranks, IsUnhurt}
 use Rattle.bf_owners.proofs.KeptLemmas.{HasRegister, IsKept, after_kept, register}
 use Rattle.bf_owners.proofs.LedgerLemmas.{weight_with, place_weighs}
 use Rattle.bf_owners.proofs.SumLemmas.{sum_alike, sum_none, sum_both, sum_joined, sum_range, sum_at_most}
@@ -197,7 +197,7 @@ module _ {S L M T R B U : Type 0} (m : Meanings S L M T R) (regions : Regions S 
 
     -- who died before the epoch has no local
     gone_away : (rank : ℕ) → stage run.core rank ≡ Gone → local_here m setup run rank ≡ None
-    unfolding local_in_place
+    unfolding local_at_place
     gone_away rank gone = by_place (place run rank)
       where
         out : is_member run.core.epoch.members rank ≡ false
@@ -205,7 +205,7 @@ module _ {S L M T R B U : Type 0} (m : Meanings S L M T R) (regions : Regions S 
             ∙ member_filter (λ r. not (is_gone (stage run.core r))) (range_with_len 0 run.core.ranks) rank
             ∙ and_right _ _ (ap (λ s. not (is_gone s)) gone)
 
-        by_place : (p : Place) → local_in_place m setup run.core.epoch run.start rank p ≡ None
+        by_place : (p : Place) → local_at_place m setup run.core.epoch run.start rank p ≡ None
         by_place (Rounds round sent received peers) =
             ap (option_map (local_in_round m setup run.core.epoch run.start rank round sent received peers))
             (no_seat run.core.epoch.members (lockstep m setup run.core.epoch run.start round) rank out)
@@ -223,11 +223,11 @@ module _ {S L M T R B U : Type 0} (m : Meanings S L M T R) (regions : Regions S 
     full_share rank s same = record { most = omega (arith, same); whole = λ _ _. same }
 
     done_share : (rank : ℕ) (filled : Bool) → stage run.core rank ≡ Arrived Done filled → IsShare rank (Arrived Done filled)
-    unfolding local_in_place
+    unfolding local_at_place
     done_share rank filled at = by_end (run.core.epoch.target == run.core.steps) refl
       where
         past : weight_with (local_times m regions unit) (local_here m setup run rank) ≡ weight_with (local_times m regions unit) (last_local m setup run rank)
-        past = ap (λ (p : Place). weight_with (local_times m regions unit) (local_in_place m setup run.core.epoch run.start rank p)) (lawful.steady.done rank filled at).0
+        past = ap (λ (p : Place). weight_with (local_times m regions unit) (local_at_place m setup run.core.epoch run.start rank p)) (lawful.steady.done rank filled at).0
 
         by_end : (b : Bool) → (run.core.epoch.target == run.core.steps) ≡ b → IsShare rank (Arrived Done filled)
         by_end true ends = full_share rank (Arrived Done filled)
@@ -279,17 +279,21 @@ module _ {S L M T R B U : Type 0} (m : Meanings S L M T R) (regions : Regions S 
 
 module _ {S L M T R B U : Type 0} (m : Meanings S L M T R) (regions : Regions S L M T R B U) (good : S → Epoch → ℕ → List L → Type 0) (view : View S M T)
     (laws : Laws m regions good view.setup) (seen : IsView m view) (unit : U) (inside : IsTrue (regions.is_in_domain view.setup unit)) where
-  lawful : IsLawful m good view.setup laws.goods laws.stores (run_after m view.setup view.journal)
+  -- the run that the journal tells
+  abbrev told : Run L T
+  told = run_after m view.setup view.journal
+
+  lawful : IsLawful m good view.setup laws.goods laws.stores told
   lawful = after_lawful m good view.setup laws.goods laws.stores laws.limits view.journal seen.legal
 
-  result : IsResult m good view.setup laws.goods laws.stores (run_after m view.setup view.journal)
+  result : IsResult m good view.setup laws.goods laws.stores told
   result = after_result m good view.setup laws.goods laws.stores laws.limits view.journal seen.legal
 
-  kept : IsKept m view.setup (run_after m view.setup view.journal)
+  kept : IsKept m view.setup told
   kept = after_kept m good view.setup laws.goods laws.stores laws.limits view.journal seen.legal
 
-  listed : HasRegister m view.setup (run_after m view.setup view.journal)
-  listed = register m good view.setup laws.goods laws.stores (run_after m view.setup view.journal) lawful result kept
+  listed : HasRegister m view.setup told
+  listed = register m good view.setup laws.goods laws.stores told lawful result kept
 
   abbrev every : List ℕ
   every = range_with_len 0 (m.ranks view.setup)
@@ -299,68 +303,68 @@ module _ {S L M T R B U : Type 0} (m : Meanings S L M T R) (regions : Regions S 
 
   -- while the run goes on: what a rank's local holds where it stands, and what waits for it
   abbrev share_of : ℕ → ℕ
-  share_of rank = weight_with (local_times m regions unit) (local_here m view.setup (run_after m view.setup view.journal) rank) + waiting_weight m regions unit view rank
+  share_of rank = weight_with (local_times m regions unit) (local_here m view.setup told rank) + waiting_weight m regions unit view rank
 
-  module _ (none : (run_after m view.setup view.journal).core.outcome ≡ None) where
-    shared : (rank : ℕ) → IsShare m regions good view.setup laws unit (run_after m view.setup view.journal) lawful none kept listed.below (result.going none)
-        rank (stage (run_after m view.setup view.journal).core rank)
-    shared rank = share m regions good view.setup laws unit (run_after m view.setup view.journal) lawful none kept listed.below (result.going none) rank
+  module _ (none : told.core.outcome ≡ None) where
+    shared : (rank : ℕ) → IsShare m regions good view.setup laws unit told lawful none kept listed.below (result.going none)
+        rank (stage told.core rank)
+    shared rank = share m regions good view.setup laws unit told lawful none kept listed.below (result.going none) rank
 
     owns_parts : (rank : ℕ) → owns rank
-        ≡ weight_with (local_times m regions unit) (local_by m view.setup (run_after m view.setup view.journal) rank (stage (run_after m view.setup view.journal).core rank))
+        ≡ weight_with (local_times m regions unit) (local_by m view.setup told rank (stage told.core rank))
         + (waiting_weight m regions unit view rank
-        + gift m regions good view.setup laws unit (run_after m view.setup view.journal) lawful none kept listed.below (result.going none) rank)
+        + gift m regions good view.setup laws unit told lawful none kept listed.below (result.going none) rank)
     owns_parts rank =
         omega (
           arith,
           owned_weighs m regions unit view rank,
           held_weighs m regions unit view rank,
           awaited_weighs m regions unit view rank,
-          given_weighs m regions unit view (run_after m view.setup view.journal).core.epoch (run_after m view.setup view.journal).start (result.going none).arrivals rank
+          given_weighs m regions unit view told.core.epoch told.start (result.going none).arrivals rank
               (result.going none).apart (seen.parcels ∙ (result.going none).parcels_are),
         )
 
     shares_weigh : sum_by share_of every ≡ 1
     shares_weigh =
-        let P : ℕ → Type 0 = λ n. sum_by (λ rank. weight_with (local_times m regions unit) (local_here m view.setup (run_after m view.setup view.journal) rank)) (range_with_len 0 n)
+        let P : ℕ → Type 0 = λ n. sum_by (λ rank. weight_with (local_times m regions unit) (local_here m view.setup told rank)) (range_with_len 0 n)
         + sum_by (λ rank. sum_by (λ from. sum_by (message_times m regions unit) (messages view.waiting from rank)) (range_with_len 0 n)) (range_with_len 0 n) ≡ 1 in
-        sum_both (λ rank. weight_with (local_times m regions unit) (local_here m view.setup (run_after m view.setup view.journal) rank)) (waiting_weight m regions unit view) every
+        sum_both (λ rank. weight_with (local_times m regions unit) (local_here m view.setup told rank)) (waiting_weight m regions unit view) every
         ∙ subst P seen.queues.ranks
-        (total_weighs m regions good view.setup laws.goods laws.peers laws.pieces unit (run_after m view.setup view.journal) view.waiting lawful.steady.good_start listed.members
+        (total_weighs m regions good view.setup laws.goods laws.peers laws.pieces unit told view.waiting lawful.steady.good_start listed.members
         (λ y member. omega (arith, listed.below y member, seen.queues.ranks)) lawful.steady.placed (seen.queues.holds none) inside)
 
-    going_once : has_dead_member (run_after m view.setup view.journal).core ≡ false → is_short_of_memory (run_after m view.setup view.journal).core ≡ false → sum_by owns every ≡ 1
+    going_once : has_dead_member told.core ≡ false → is_short_of_memory told.core ≡ false → sum_by owns every ≡ 1
     going_once alive content =
         sum_alike owns share_of every
         (λ rank. omega (
           arith,
           owns_parts rank,
-          (shared rank).whole (nobody_any is_dead (run_after m view.setup view.journal).core refl alive rank) (nobody_any is_short (run_after m view.setup view.journal).core refl content rank),
+          (shared rank).whole (nobody_any is_dead told.core refl alive rank) (nobody_any is_short told.core refl content rank),
         ))
         ∙ shares_weigh
 
     going_most : sum_by owns (live_ranks m view) ≤ 1
     going_most =
         let most : sum_by owns (live_ranks m view) ≤ sum_by share_of every =
-        sum_at_most owns share_of (λ rank. lives (stage (run_after m view.setup view.journal).core rank)) 0 (m.ranks view.setup)
+        sum_at_most owns share_of (λ rank. lives (stage told.core rank)) 0 (m.ranks view.setup)
         (λ rank _ _ _. omega (arith, owns_parts rank, (shared rank).most)) in
         omega (arith, most, shares_weigh)
 
-  module _ (outcome : Outcome) (ends : (run_after m view.setup view.journal).core.outcome ≡ Some outcome) where
+  module _ (outcome : Outcome) (ends : told.core.outcome ≡ Some outcome) where
     -- what each rank's last local holds
     abbrev last_weight : ℕ → ℕ
-    last_weight rank = weight_with (local_times m regions unit) (last_local m view.setup (run_after m view.setup view.journal) rank)
+    last_weight rank = weight_with (local_times m regions unit) (last_local m view.setup told rank)
 
     nothing_held : (rank : ℕ) → times regions (held m regions view rank) unit ≡ 0
-    nothing_held rank = held_weighs m regions unit view rank ∙ by_stage (stage (run_after m view.setup view.journal).core rank) (lawful.sound.over outcome ends rank)
+    nothing_held rank = held_weighs m regions unit view rank ∙ by_stage (stage told.core rank) (lawful.sound.over outcome ends rank)
       where
         by_stage : (s : Stage) → is_open s ≡ false
-            → weight_with (local_times m regions unit) (local_by m view.setup (run_after m view.setup view.journal) rank s) ≡ 0
+            → weight_with (local_times m regions unit) (local_by m view.setup told rank s) ≡ 0
         by_stage Running opened = absurd (cc)
         by_stage (Arrived how filled) opened = absurd (cc)
         by_stage Leaving _ =
             ap (λ (o : Option Outcome). weight_with (local_times m regions unit)
-            (if is_some o then None else local_of (run_after m view.setup view.journal).core.epoch.members (run_after m view.setup view.journal).start rank)) ends
+            (if is_some o then None else local_of told.core.epoch.members told.start rank)) ends
         by_stage Ended _ = refl
         by_stage Dead _ = refl
         by_stage Gone _ = refl
@@ -382,21 +386,21 @@ module _ {S L M T R B U : Type 0} (m : Meanings S L M T R) (regions : Regions S 
           owned_weighs m regions unit view rank,
           nothing_held rank,
           nothing_awaited rank within,
-          given_weighs m regions unit view (run_after m view.setup view.journal).core.epoch (run_after m view.setup view.journal).start listed.arrivals rank
+          given_weighs m regions unit view told.core.epoch told.start listed.arrivals rank
               listed.apart (seen.parcels ∙ listed.parcels_are)
-              ∙ ap (λ n. cond (is_member listed.arrivals rank) n 0) (part_weighs m regions good view.setup laws unit (run_after m view.setup view.journal) lawful rank),
+              ∙ ap (λ n. cond (is_member listed.arrivals rank) n 0) (part_weighs m regions good view.setup laws unit told lawful rank),
         )
 
     last_weighs : sum_by last_weight every ≡ 1
     last_weighs =
-        good_weighs m regions good view.setup laws.goods laws.peers laws.pieces unit (run_after m view.setup view.journal).core.epoch
-        (m.rounds view.setup (run_after m view.setup view.journal).core.epoch) _ (m.ranks view.setup)
-        (good_last m regions good view.setup laws unit (run_after m view.setup view.journal) lawful) listed.members listed.below inside
+        good_weighs m regions good view.setup laws.goods laws.peers laws.pieces unit told.core.epoch
+        (m.rounds view.setup told.core.epoch) _ (m.ranks view.setup)
+        (good_last m regions good view.setup laws unit told lawful) listed.members listed.below inside
 
     ended_most : sum_by owns (live_ranks m view) ≤ 1
     ended_most =
         let most : sum_by owns (live_ranks m view) ≤ sum_by last_weight every =
-        sum_at_most owns last_weight (λ rank. lives (stage (run_after m view.setup view.journal).core rank)) 0 (m.ranks view.setup)
+        sum_at_most owns last_weight (λ rank. lives (stage told.core rank)) 0 (m.ranks view.setup)
         (λ rank _ below _. omega (arith, owns_gift rank (omega (arith, below)), at_most (is_member listed.arrivals rank) (last_weight rank))) in
         omega (arith, most, last_weighs)
       where
@@ -407,17 +411,17 @@ module _ {S L M T R B U : Type 0} (m : Meanings S L M T R) (regions : Regions S 
     finished_once : outcome ≡ outcomes.Finished → sum_by owns every ≡ 1
     finished_once finishes =
         sum_range owns last_weight 0 (m.ranks view.setup)
-        (λ rank _ below. owns_gift rank (omega (arith, below)) ∙ by_given rank (is_member listed.arrivals rank) refl (is_member (run_after m view.setup view.journal).core.epoch.members rank) refl)
+        (λ rank _ below. owns_gift rank (omega (arith, below)) ∙ by_given rank (is_member listed.arrivals rank) refl (is_member told.core.epoch.members rank) refl)
         ∙ last_weighs
       where
-        by_given : (rank : ℕ) (b : Bool) → is_member listed.arrivals rank ≡ b → (c : Bool) → is_member (run_after m view.setup view.journal).core.epoch.members rank ≡ c
+        by_given : (rank : ℕ) (b : Bool) → is_member listed.arrivals rank ≡ b → (c : Bool) → is_member told.core.epoch.members rank ≡ c
             → cond b (last_weight rank) 0 ≡ last_weight rank
         by_given rank true gave c is = refl
         by_given rank false kept_back true is =
             let both : true ≡ false = sym (listed.full (ends ∙ ap Some finishes) rank is) ∙ kept_back in absurd (cc)
         by_given rank false kept_back false out =
-            sym (ap (weight_with (local_times m regions unit)) (no_seat (run_after m view.setup view.journal).core.epoch.members
-            (lockstep m view.setup (run_after m view.setup view.journal).core.epoch (run_after m view.setup view.journal).start (m.rounds view.setup (run_after m view.setup view.journal).core.epoch)) rank out))
+            sym (ap (weight_with (local_times m regions unit)) (no_seat told.core.epoch.members
+            (lockstep m view.setup told.core.epoch told.start (m.rounds view.setup told.core.epoch)) rank out))
 
   -- each unit has one owner
   pub owned_once : IsUnhurt (run_after m view.setup view.journal).core → times_owned m regions view (all_ranks m view) unit ≡ 1
@@ -428,8 +432,8 @@ module _ {S L M T R B U : Type 0} (m : Meanings S L M T R) (regions : Regions S 
 
   -- and those that live own it at most once
   pub owned_at_most_once : times_owned m regions view (live_ranks m view) unit ≤ 1
-  owned_at_most_once = by_outcome (run_after m view.setup view.journal).core.outcome refl
+  owned_at_most_once = by_outcome told.core.outcome refl
     where
-      by_outcome : (o : Option Outcome) → (run_after m view.setup view.journal).core.outcome ≡ o → sum_by owns (live_ranks m view) ≤ 1
+      by_outcome : (o : Option Outcome) → told.core.outcome ≡ o → sum_by owns (live_ranks m view) ≤ 1
       by_outcome None none = going_most none
       by_outcome (Some outcome) ends = ended_most outcome ends

@@ -26,23 +26,23 @@ module _ {S L M T R : Type 0} (m : Meanings S L M T R) (setup : S) (epoch : Epoc
       cond (nat_lt sent (length peers)) (after_sends m setup epoch round first sent)
       (after_receives m setup epoch round (lockstep m setup epoch start round) rank first received)
 
-  -- a rank's local of the lockstep where it stands at a place; none if it is no member
-  unfoldable pub local_in_place : (rank : ℕ) → Place → Option L
-  local_in_place rank (Rounds round sent received peers) =
+  -- a rank's local of the lockstep at a place, if it is a member
+  unfoldable pub local_at_place : (rank : ℕ) → Place → Option L
+  local_at_place rank (Rounds round sent received peers) =
       option_map (local_in_round rank round sent received peers) (local_at m setup epoch start rank round)
-  local_in_place rank Past = local_at m setup epoch start rank (m.rounds setup epoch)
+  local_at_place rank Past = local_at m setup epoch start rank (m.rounds setup epoch)
 
 module _ {S L M T R : Type 0} (m : Meanings S L M T R) (setup : S) (run : Run L T) where
   -- a rank's local of the lockstep where it stands in a run
   abbrev pub local_here : (rank : ℕ) → Option L
-  local_here rank = local_in_place m setup run.core.epoch run.start rank (place run rank)
+  local_here rank = local_at_place m setup run.core.epoch run.start rank (place run rank)
 
-  -- what is left of the last local of a rank that has arrived done: in the last epoch it has given its parcel
+  -- what a rank has left of its last local once it has arrived done: in the last epoch it has given its parcel
   abbrev pub local_left : L → L
   local_left last = if run.core.epoch.target == run.core.steps then (m.parcel last).0 else last
 
-  -- the local that a rank has by its stage, and where it must leave, that with which it begins the next epoch, if there is one;
-  -- who has arrived for want of memory has none
+  -- the local that a rank has, by its stage: who must leave has that with which it begins the epoch, or none where the run has
+  -- ended, and who has arrived for want of memory has none
   abbrev pub local_by : (rank : ℕ) → Stage → Option L
   local_by rank Running = local_here rank
   local_by rank (Arrived Done filled) = option_map local_left (last_local m setup run rank)
@@ -54,6 +54,7 @@ module _ {S L M T R : Type 0} (m : Meanings S L M T R) (setup : S) (run : Run L 
   local_by rank Gone = None
 
 module _ {S L M T R B U : Type 0} (m : Meanings S L M T R) (regions : Regions S L M T R B U) (view : View S M T) where
+  -- the boxes of a local, if there is one
   abbrev pub boxes_of : Option L → List B
   boxes_of (Some local) = regions.of_local local
   boxes_of None = []
@@ -81,6 +82,7 @@ module _ {S L M T R B U : Type 0} (m : Meanings S L M T R) (regions : Regions S 
   times_owned ranks unit = sum_by (λ rank. times regions (owned rank) unit) ranks
 
 module _ {S L M T R : Type 0} (m : Meanings S L M T R) (view : View S M T) where
+  -- the ranks of a run
   abbrev pub all_ranks : List ℕ
   all_ranks = range_with_len 0 (m.ranks view.setup)
 
