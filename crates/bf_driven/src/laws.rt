@@ -1,5 +1,5 @@
 //! What comes of a case that is run by its ranks, each law the contract of a call that does nothing.
-ghost use Rattle.std.specs.Prelude.{◌≡◌, ◌⊎◌, ℕ, IsTrue, IsPermutation, List, [], Some, None, is_some, map};
+ghost use Rattle.std.specs.Prelude.{◌≡◌, ◌≤◌, ◌⊎◌, ℕ, IsTrue, IsPermutation, List, [], Some, None, is_some, map};
 ghost use Rattle.std.specs.List.{flat_map, list_any};
 ghost use Rattle.std.specs.List.Sorted.{IsNonDecreasingBy};
 ghost use Rattle.bf_case.specs.declared.case.Case.{Case};
@@ -9,14 +9,18 @@ ghost use Rattle.bf_core.specs.declared.outcome.Outcome.TheVariants.{Finished, M
 ghost use Rattle.bf_core.specs.Legal.{is_memory};
 ghost use Rattle.bf_core.specs.States.{is_finished};
 ghost use Rattle.bf_world.specs.Runs.{run_after, is_journal};
-ghost use Rattle.bf_world.specs.Worlds.{core_after};
+ghost use Rattle.bf_world.specs.Worlds.{View, IsView, core_after};
+ghost use Rattle.bf_owners.specs.Owners.{IsUnhurt, times_owned, all_ranks, live_ranks};
+ghost use Rattle.bf_id.specs.Cube.{Voxel};
+ghost use Rattle.bf_msg.specs.declared.linked_block.LinkedBlock.{LinkedBlock};
+ghost use Rattle.bf_msg.specs.declared.message.Message.{Message};
 ghost use Rattle.bf_block.specs.Block.{BlockValue, leaf_of};
 ghost use Rattle.bf_forest.specs.Cases.{KeepsRoots};
 ghost use Rattle.bf_forest.specs.declared.local.ForestLocal.{ForestLocal};
 ghost use Rattle.bf_forest.specs.declared.setup.Setup.{Setup};
 ghost use Rattle.bf_forest.specs.Setup.{case_of};
 ghost use Rattle.bf_forest.specs.Leaves.{AreLeaves, bare_blocks};
-ghost use Rattle.bf_forest.specs.Meanings.{forest};
+ghost use Rattle.bf_forest.specs.Meanings.{forest, pieces};
 ghost use Rattle.bf_rank.specs.Ranks.{last_decided};
 ghost use Rattle.bf_driven.specs.Held.{IsHeld, IsHolder, MustLeave, HadMemory, agreed_side};
 ghost use Rattle.bf_driven.specs.Parcels.{blocks_of};
@@ -25,6 +29,7 @@ use bf_forest::Forest;
 use bf_forest::laws::{
     good_vectors_are_those_dealt, some_home_has_a_block, the_blocks_are_the_models_leaves,
 };
+use bf_owners::laws::{each_unit_has_one_owner, no_unit_has_two_live_owners};
 use bf_rank::laws::{
     a_rank_keeps_what_a_restore_reads, a_rank_that_must_leave_keeps_what_a_restore_reads,
     the_decided_epoch_began_good,
@@ -79,6 +84,20 @@ pub fn each_rank_holds_its_parts_of_the_agreed_snapshot()
     good_vectors_are_those_dealt();
     a_rank_keeps_what_a_restore_reads::<Forest>();
     a_rank_that_must_leave_keeps_what_a_restore_reads::<Forest>();
+}
+
+/// Each unit of the domain is owned once: while every member lives and none has arrived for want of memory, and once the run has
+/// finished, it lies in exactly one piece [one]. Whatever has happened, it lies in at most one piece whose owner lives [live]. Pieces are the
+/// boxes of the blocks that ranks have, and of those in their parcels; copies in snapshots and messages are none.
+pub fn each_unit_of_the_domain_has_one_owner()
+    ensures one { (view : View Setup Message (List LinkedBlock)) (unit : Voxel) → IsView forest view
+        → IsUnhurt (core_after forest view.setup view.journal) → IsTrue (pieces.is_in_domain view.setup unit)
+        → times_owned forest pieces view (all_ranks forest view) unit ≡ 1 }
+    ensures live { (view : View Setup Message (List LinkedBlock)) (unit : Voxel) → IsView forest view
+        → IsTrue (pieces.is_in_domain view.setup unit) → times_owned forest pieces view (live_ranks forest view) unit ≤ 1 }
+{
+    each_unit_has_one_owner::<Forest>();
+    no_unit_has_two_live_owners::<Forest>();
 }
 
 /// Blocks that are the leaves of a map of the model, put in rising order of their roots, are the map.

@@ -26,7 +26,7 @@ returns c = record {
   finished = λ setup journal legal finished.
       let run = run_after forest setup journal in
       let has = (c.good_vectors_are_those_dealt.ensures setup run.core.epoch (rounds_of forest_plan run.core.epoch) (last_locals forest setup run)).0
-          (c.the_last_locals_are_good.ensures setup journal legal) in
+      (c.the_last_locals_are_good.ensures setup journal legal) in
       record {
         home = has.1;
         among = owned_last setup run.core.epoch has.1 has.2 (last_locals forest setup run) has.0 has.3;
