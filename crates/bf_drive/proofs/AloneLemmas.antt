@@ -21,7 +21,8 @@ use Rattle.bf_core.proofs.LawLemmas.{nothing_legal}
 use Rattle.bf_world.specs.Course.{message_at}
 use Rattle.bf_world.specs.Runs.{Run, place, is_measured, tells_truly, is_legal_in, run_after, is_journal}
 use Rattle.bf_rank.specs.Ranks.{IsTurn}
-use Rattle.bf_drive.specs.Drives.{Turned, Turns, Passes, IsDriven, NobodyWantsMemory}
+use Rattle.bf_drive.specs.Drives.{Progress, Turns, Passes, beginning, IsDriven, NobodyWantsMemory}
+use Rattle.bf_drive.proofs.TookLemmas.{Grew, grew}
 use Rattle.bf_drive.proofs.StayLemmas.{first_legal, last_legal}
 
 -- ---- which steps a rank may have at once
@@ -260,16 +261,17 @@ module _ {S L M T R : Type 0} (m : Meanings S L M T R) (good : S → Epoch → �
   quiet_last : (old new : List Event) (event : Event) → new ≡ old ++ event ∷ [] → IsQuiet new → is_memory event ≡ false
   quiet_last old new event more quiet = nobody_last old event (subst NobodyWantsMemory more quiet.nobody)
 
-  pub turned_quiet : (rank : ℕ) (old new : List Event) → Turned m good setup rank old new → IsQuiet new → IsQuiet old
+  pub turned_quiet : (rank : ℕ) (old new : List Event) → Grew m good setup rank old new → IsQuiet new → IsQuiet old
   turned_quiet rank old new (inl (event, (more, turn))) quiet = quiet_before old new event more quiet
   turned_quiet rank old new (inr (same, none)) quiet = subst IsQuiet same quiet
 
-  pub turns_quiet : (ranks : List ℕ) (old new : List Event) → Turns m good setup ranks old new → IsQuiet new → IsQuiet old
-  turns_quiet [] old new same quiet = subst IsQuiet same quiet
-  turns_quiet (rank ∷ ranks) old new (next, (first, rest)) quiet = turned_quiet rank old next first (turns_quiet ranks next new rest quiet)
+  pub turns_quiet : (ranks : List ℕ) (old new : Progress) → Turns m good setup ranks old new → IsQuiet new.journal → IsQuiet old.journal
+  turns_quiet [] old new same quiet = subst IsQuiet (ap (λ p. p.journal) same) quiet
+  turns_quiet (rank ∷ ranks) old new (next, (first, rest)) quiet =
+      turned_quiet rank old.journal next.journal (grew m good setup rank old next first) (turns_quiet ranks next new rest quiet)
 
-  passes_quiet : (count : ℕ) (old new : List Event) → Passes m good setup count old new → IsQuiet new → IsQuiet old
-  passes_quiet zero old new same quiet = subst IsQuiet same quiet
+  passes_quiet : (count : ℕ) (old new : Progress) → Passes m good setup count old new → IsQuiet new.journal → IsQuiet old.journal
+  passes_quiet zero old new same quiet = subst IsQuiet (ap (λ p. p.journal) same) quiet
   passes_quiet (suc count) old new (next, (first, rest)) quiet = turns_quiet (range_with_len 0 (m.ranks setup)) old next first (passes_quiet count next new rest quiet)
 
   -- who adds an event was offered one
@@ -282,7 +284,7 @@ module _ {S L M T R : Type 0} (m : Meanings S L M T R) (good : S → Epoch → �
       by_turn (inr wants) = both_ways (is_memory event) (quiet_last old new event more quiet) wants
 
   -- a turn leads to one journal
-  turned_once : (rank : ℕ) (old new other : List Event) → IsQuiet new → IsQuiet other → Turned m good setup rank old new → Turned m good setup rank old other → new ≡ other
+  turned_once : (rank : ℕ) (old new other : List Event) → IsQuiet new → IsQuiet other → Grew m good setup rank old new → Grew m good setup rank old other → new ≡ other
   turned_once rank old new other quiet still (inl (e, (more, turn))) (inl (f, (longer, its))) =
       let same : e ≡ f = one_event m setup (run_after m setup old) e f (turn.its ∙ sym its.its) (legal_last old new e more quiet) (legal_last old other f longer still)
       (quiet_last old new e more quiet) (quiet_last old other f longer still) in
@@ -291,14 +293,19 @@ module _ {S L M T R : Type 0} (m : Meanings S L M T R) (good : S → Epoch → �
   turned_once rank old new other quiet still (inr (same, none)) (inl (f, (longer, its))) = absurd (moves_where_offered rank old other f longer its still none)
   turned_once rank old new other quiet still (inr (same, none)) (inr (equal, never)) = same ∙ sym equal
 
-  pub turns_once : (ranks : List ℕ) (old new other : List Event) → IsQuiet new → IsQuiet other → Turns m good setup ranks old new → Turns m good setup ranks old other → new ≡ other
-  turns_once [] old new other quiet still same equal = same ∙ sym equal
-  turns_once (rank ∷ ranks) old new other quiet still (next, (first, rest)) (then, (its, others)) =
-      let same : next ≡ then = turned_once rank old next then (turns_quiet ranks next new rest quiet) (turns_quiet ranks then other others still) first its in
-      turns_once ranks next new other quiet still rest (subst (λ j. Turns m good setup ranks j other) (sym same) others)
+  -- so do turns, whoever has failed
+  pub turns_once : (ranks : List ℕ) (old before new other : Progress) → old.journal ≡ before.journal → IsQuiet new.journal → IsQuiet other.journal
+      → Turns m good setup ranks old new → Turns m good setup ranks before other → new.journal ≡ other.journal
+  turns_once [] old before new other start quiet still same equal = ap (λ p. p.journal) same ∙ start ∙ sym (ap (λ p. p.journal) equal)
+  turns_once (rank ∷ ranks) old before new other start quiet still (next, (first, rest)) (then, (its, others)) =
+      let P : List Event → Type 0 = λ j. Grew m good setup rank j then.journal in
+      let same : next.journal ≡ then.journal =
+      turned_once rank old.journal next.journal then.journal (turns_quiet ranks next new rest quiet) (turns_quiet ranks then other others still)
+      (grew m good setup rank old next first) (subst P (sym start) (grew m good setup rank before then its)) in
+      turns_once ranks next then new other same quiet still rest others
 
   -- once all have ended nothing is added
-  ended_still : (rank : ℕ) (old new : List Event) → is_finished (run_after m setup old).core ≡ true → IsQuiet new → Turned m good setup rank old new → new ≡ old
+  ended_still : (rank : ℕ) (old new : List Event) → is_finished (run_after m setup old).core ≡ true → IsQuiet new → Grew m good setup rank old new → new ≡ old
   unfolding is_legal_in
   ended_still rank old new over quiet (inr (same, none)) = same
   ended_still rank old new over quiet (inl (event, (more, turn))) =
@@ -307,35 +314,44 @@ module _ {S L M T R : Type 0} (m : Meanings S L M T R) (good : S → Epoch → �
       let legal = (and_parts (is_legal core event (place (run_after m setup old) (actor event))) _ (legal_last old new event more quiet)).0 in
       absurd (both_ways (is_legal core event (place (run_after m setup old) (actor event))) (nothing_legal core event (place (run_after m setup old) (actor event)) rests) legal)
 
-  turns_still : (ranks : List ℕ) (old new : List Event) → is_finished (run_after m setup old).core ≡ true → IsQuiet new → Turns m good setup ranks old new → new ≡ old
-  turns_still [] old new over quiet same = same
-  turns_still (rank ∷ ranks) old new over quiet (next, (first, rest)) =
-      let same : next ≡ old = ended_still rank old next over (turns_quiet ranks next new rest quiet) first in
-      turns_still ranks old new over quiet (subst (λ j. Turns m good setup ranks j new) same rest)
-
-  passes_still : (count : ℕ) (old new : List Event) → is_finished (run_after m setup old).core ≡ true → IsQuiet new → Passes m good setup count old new → new ≡ old
-  passes_still zero old new over quiet same = same
-  passes_still (suc count) old new over quiet (next, (first, rest)) =
-      let same : next ≡ old = turns_still (range_with_len 0 (m.ranks setup)) old next over (passes_quiet count next new rest quiet) first in
-      passes_still count old new over quiet (subst (λ j. Passes m good setup count j new) same rest)
-
   ends : (j k : List Event) → j ≡ k → is_finished (run_after m setup j).core ≡ true → is_finished (run_after m setup k).core ≡ true
   ends j k same over = subst (λ i. is_finished (run_after m setup i).core ≡ true) same over
 
+  turns_still : (ranks : List ℕ) (old new : Progress) → is_finished (run_after m setup old.journal).core ≡ true → IsQuiet new.journal → Turns m good setup ranks old new
+      → new.journal ≡ old.journal
+  turns_still [] old new over quiet same = ap (λ p. p.journal) same
+  turns_still (rank ∷ ranks) old new over quiet (next, (first, rest)) =
+      let same : next.journal ≡ old.journal = ended_still rank old.journal next.journal over (turns_quiet ranks next new rest quiet) (grew m good setup rank old next first) in
+      turns_still ranks next new (ends old.journal next.journal (sym same) over) quiet rest ∙ same
+
+  passes_still : (count : ℕ) (old new : Progress) → is_finished (run_after m setup old.journal).core ≡ true → IsQuiet new.journal → Passes m good setup count old new
+      → new.journal ≡ old.journal
+  passes_still zero old new over quiet same = ap (λ p. p.journal) same
+  passes_still (suc count) old new over quiet (next, (first, rest)) =
+      let same : next.journal ≡ old.journal = turns_still (range_with_len 0 (m.ranks setup)) old next over (passes_quiet count next new rest quiet) first in
+      passes_still count next new (ends old.journal next.journal (sym same) over) quiet rest ∙ same
+
   -- so the passes lead to one journal in which all have ended
-  passes_once : (count more : ℕ) (old new other : List Event) → IsQuiet new → IsQuiet other
-      → is_finished (run_after m setup new).core ≡ true → is_finished (run_after m setup other).core ≡ true
-      → Passes m good setup count old new → Passes m good setup more old other → new ≡ other
-  passes_once zero more old new other quiet still over end same passes = same ∙ sym (passes_still more old other (ends new old same over) still passes)
-  passes_once (suc count) zero old new other quiet still over end passes same = passes_still (suc count) old new (ends other old same end) quiet passes ∙ sym same
-  passes_once (suc count) (suc more) old new other quiet still over end (next, (first, rest)) (then, (its, others)) =
-      let same : next ≡ then =
-      turns_once (range_with_len 0 (m.ranks setup)) old next then (passes_quiet count next new rest quiet) (passes_quiet more then other others still) first its in
-      passes_once count more next new other quiet still over end rest (subst (λ j. Passes m good setup more j other) (sym same) others)
+  passes_once : (count more : ℕ) (old before new other : Progress) → old.journal ≡ before.journal → IsQuiet new.journal → IsQuiet other.journal
+      → is_finished (run_after m setup new.journal).core ≡ true → is_finished (run_after m setup other.journal).core ≡ true
+      → Passes m good setup count old new → Passes m good setup more before other → new.journal ≡ other.journal
+  passes_once zero more old before new other start quiet still over end same passes =
+      let there : new.journal ≡ before.journal = ap (λ p. p.journal) same ∙ start in
+      there ∙ sym (passes_still more before other (ends new.journal before.journal there over) still passes)
+  passes_once (suc count) zero old before new other start quiet still over end passes same =
+      let there : other.journal ≡ old.journal = ap (λ p. p.journal) same ∙ sym start in
+      passes_still (suc count) old new (ends other.journal old.journal there end) quiet passes ∙ sym there
+  passes_once (suc count) (suc more) old before new other start quiet still over end (next, (first, rest)) (then, (its, others)) =
+      let same : next.journal ≡ then.journal =
+      turns_once (range_with_len 0 (m.ranks setup)) old before next then start (passes_quiet count next new rest quiet) (passes_quiet more then other others still) first its in
+      passes_once count more next then new other same quiet still over end rest others
 
   pub driven_once : (order : List ℕ) (new other : List Event) → IsQuiet new → IsQuiet other
       → is_finished (run_after m setup new).core ≡ true → is_finished (run_after m setup other).core ≡ true
       → IsDriven m good setup order new → IsDriven m good setup order other → new ≡ other
-  driven_once order new other quiet still over end (next, (first, (count, passes))) (then, (its, (more, others))) =
-      let same : next ≡ then = turns_once order [] next then (passes_quiet count next new passes quiet) (passes_quiet more then other others still) first its in
-      passes_once count more next new other quiet still over end passes (subst (λ j. Passes m good setup more j other) (sym same) others)
+  driven_once order new other quiet still over end (failed, (next, (first, (count, passes)))) (lost, (then, (its, (more, others)))) =
+      let here : Progress = record { journal = new; failed = failed } in
+      let there : Progress = record { journal = other; failed = lost } in
+      let same : next.journal ≡ then.journal =
+      turns_once order beginning beginning next then refl (passes_quiet count next here passes quiet) (passes_quiet more then there others still) first its in
+      passes_once count more next then here there same quiet still over end passes others

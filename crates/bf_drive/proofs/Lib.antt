@@ -4,3 +4,4 @@ pub mod TookLemmas
 pub mod LighterLemmas
 pub mod AloneLemmas
 pub mod OpeningLemmas
+pub mod LeadLemmas

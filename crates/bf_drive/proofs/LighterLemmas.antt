@@ -19,7 +19,8 @@ use Rattle.bf_world.proofs.LawfulLemmas.{IsLawful, after_lawful}
 use Rattle.bf_world.proofs.OrderLemmas.{somebody_can_move}
 use Rattle.bf_world.specs.Weights.{weight}
 use Rattle.bf_world.proofs.WeightLemmas.{journal_falls}
-use Rattle.bf_drive.specs.Drives.{Turned, Turns}
+use Rattle.bf_drive.specs.Drives.{Progress, Turns}
+use Rattle.bf_drive.proofs.TookLemmas.{Grew}
 use Rattle.bf_drive.specs.Lighter.{IsLighter}
 use Rattle.bf_drive.proofs.StayLemmas.{first_legal, last_legal}
 use Rattle.bf_drive.proofs.TurnsLemmas.{pass_grows}
@@ -42,7 +43,7 @@ module _ {S L M T R : Type 0} (m : Meanings S L M T R) (setup : S) where
 
 module _ {S L M T R : Type 0} (m : Meanings S L M T R) (good : S → Epoch → ℕ → List L → Type 0) (setup : S)
     (limits : KeepsLimits m setup) (goods : KeepsGood m good setup) (stores : KeepsStored m good setup) (peers : KeepsPeers m good setup) where
-  pub turned_lightens : (rank : ℕ) (old new : List Event) → is_journal m setup new ≡ true → Turned m good setup rank old new → IsLighter m setup old new
+  pub turned_lightens : (rank : ℕ) (old new : List Event) → is_journal m setup new ≡ true → Grew m good setup rank old new → IsLighter m setup old new
   turned_lightens rank old new legal (inr (same, none)) = lighter_same m setup old new same
   turned_lightens rank old new legal (inl (event, (more, turn))) =
       let J : List Event → Type 0 = λ j. is_journal m setup j ≡ true in
@@ -64,10 +65,10 @@ module _ {S L M T R : Type 0} (m : Meanings S L M T R) (good : S → Epoch → �
       omega (arith, is_rank goes_on run.core rank refl goes, lawful.sound.size, lawful.steady.ranks)
 
   -- a pass through all ranks leaves less to be done, unless all have ended
-  pub pass_lightens : (old new : List Event) (waiting : Waiting M) → is_journal m setup old ≡ true → AreQueuesOf m setup (run_after m setup old) waiting
-      → is_finished (run_after m setup old).core ≡ false → Turns m good setup (range_with_len 0 (m.ranks setup)) old new → IsLighter m setup old new
-      → weight m setup (run_after m setup new) < weight m setup (run_after m setup old)
+  pub pass_lightens : (old new : Progress) (waiting : Waiting M) → is_journal m setup old.journal ≡ true → AreQueuesOf m setup (run_after m setup old.journal) waiting
+      → is_finished (run_after m setup old.journal).core ≡ false → Turns m good setup (range_with_len 0 (m.ranks setup)) old new → IsLighter m setup old.journal new.journal
+      → weight m setup (run_after m setup new.journal) < weight m setup (run_after m setup old.journal)
   pass_lightens old new waiting legal queues unfinished turns lighter =
-      let lawful : IsLawful m good setup goods stores (run_after m setup old) = after_lawful m good setup goods stores limits old legal in
-      let can : CanMove (run_after m setup old).core (place (run_after m setup old)) = somebody_can_move m good setup goods stores peers (run_after m setup old) waiting lawful queues unfinished in
-      lighter.less (pass_grows m good setup (m.ranks setup) can.0 old new turns (ranked (run_after m setup old) lawful can.0 can.1.0 can.1.1) can.1.0 can.1.1)
+      let lawful : IsLawful m good setup goods stores (run_after m setup old.journal) = after_lawful m good setup goods stores limits old.journal legal in
+      let can : CanMove (run_after m setup old.journal).core (place (run_after m setup old.journal)) = somebody_can_move m good setup goods stores peers (run_after m setup old.journal) waiting lawful queues unfinished in
+      lighter.less (pass_grows m good setup (m.ranks setup) can.0 old new turns (ranked (run_after m setup old.journal) lawful can.0 can.1.0 can.1.1) can.1.0 can.1.1)

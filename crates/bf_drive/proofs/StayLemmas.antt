@@ -4,7 +4,8 @@ use Rattle.std.specs.Prelude.{◌⊎◌, ◌==◌, slice_set}
 use Rattle.std.proofs.Math.ListN.{get_or}
 use Rattle.std.proofs.lemmas.Bool.{cases_eq, and_from, and_parts}
 use Rattle.std.proofs.lemmas.List.{get_or-set_same, get_or-set_other, length-set}
-use Rattle.bf_drive.specs.Drives.{Turned, AreAt}
+use Rattle.bf_drive.specs.Drives.{AreAt}
+use Rattle.bf_drive.proofs.TookLemmas.{Grew}
 use Rattle.bf_program.specs.declared.epoch.Epoch.{Epoch}
 use Rattle.bf_program.specs.Meanings.{Meanings}
 use Rattle.bf_program.specs.Laws.{KeepsLimits, KeepsGood, KeepsStored, KeepsReads}
@@ -65,14 +66,14 @@ module _ {S L M T R : Type 0} (m : Meanings S L M T R) (good : S → Epoch → �
 
   -- after a rank's turn all ranks have made all their turns
   pub all_at : (old new : List Event) (ranks : List (RankView L)) (rank : ℕ) (view : RankView L) → is_journal m setup new ≡ true → rank < length ranks
-      → AreAt m good setup old ranks → Turned m good setup rank old new → view.rank ≡ rank → IsAt m good setup new view
+      → AreAt m good setup old ranks → Grew m good setup rank old new → view.rank ≡ rank → IsAt m good setup new view
       → AreAt m good setup new (slice_set ranks rank view)
   all_at old new ranks rank view legal within at turned its_rank its_at = record {
     every = length-set ranks rank view ∙ at.every;
     its = λ other default below. by_rank other default (omega (arith, below, length-set ranks rank view)) (cases_eq other rank);
   }
     where
-      still : (other : RankView L) → other.rank ≢ rank → IsAt m good setup old other → Turned m good setup rank old new → IsAt m good setup new other
+      still : (other : RankView L) → other.rank ≢ rank → IsAt m good setup old other → Grew m good setup rank old new → IsAt m good setup new other
       still other differs before (inl (event, (more, turn))) =
           let P : List Event → Type 0 = λ j. IsAt m good setup j other in
           let Q : List Event → Type 0 = λ j. is_journal m setup j ≡ true in

@@ -4,7 +4,7 @@ ghost use Rattle.bf_core.specs.States.{is_finished};
 ghost use Rattle.bf_world.specs.Worlds.{core_after};
 ghost use Rattle.bf_world.specs.Runs.{run_after};
 ghost use Rattle.bf_world.specs.Weights.{weight};
-ghost use Rattle.bf_drive.specs.Drives.{AreAt, Turned, Turns, IsDriven};
+ghost use Rattle.bf_drive.specs.Drives.{AreAt, Leads, Turned, Turns, IsDriven};
 ghost use Rattle.bf_drive.specs.Lighter.{IsLighter};
 
 use bf_program::RankProgram;
@@ -25,7 +25,7 @@ fn turn<P: RankProgram>(
     requires within { rank < length ranks.old }
     ensures setup { world.new.setup ≡ world.old.setup }
     ensures at { AreAt P.meanings P.good setup.now world.new.journal ranks.new }
-    ensures turned { Turned P.meanings P.good setup.now rank world.old.journal world.new.journal }
+    ensures turned { Leads (Turned P.meanings P.good setup.now rank) world.old.journal world.new.journal ranks.old ranks.new }
     ensures lighter { IsLighter P.meanings setup.now world.old.journal world.new.journal }
 {
     let mover = &mut ranks[rank as usize];
@@ -46,7 +46,7 @@ fn turns<P: RankProgram>(
     requires order { All (λ rank. rank < length ranks.old) order.now }
     ensures setup { world.new.setup ≡ world.old.setup }
     ensures at { AreAt P.meanings P.good setup.now world.new.journal ranks.new }
-    ensures turns { Turns P.meanings P.good setup.now order.now world.old.journal world.new.journal }
+    ensures turns { Leads (Turns P.meanings P.good setup.now order.now) world.old.journal world.new.journal ranks.old ranks.new }
     ensures lighter { IsLighter P.meanings setup.now world.old.journal world.new.journal }
 {
     for rank in order {
@@ -65,7 +65,7 @@ fn pass<P: RankProgram>(
     requires at { AreAt P.meanings P.good setup.now world.old.journal ranks.old }
     ensures setup { world.new.setup ≡ world.old.setup }
     ensures at { AreAt P.meanings P.good setup.now world.new.journal ranks.new }
-    ensures turns { Turns P.meanings P.good setup.now (range_with_len 0 (P.meanings.ranks setup.now)) world.old.journal world.new.journal }
+    ensures turns { Leads (Turns P.meanings P.good setup.now (range_with_len 0 (P.meanings.ranks setup.now))) world.old.journal world.new.journal ranks.old ranks.new }
     ensures less { is_finished (core_after P.meanings setup.now world.old.journal) ≡ false
         → weight P.meanings setup.now (run_after P.meanings setup.now world.new.journal) < weight P.meanings setup.now (run_after P.meanings setup.now world.old.journal) }
 {

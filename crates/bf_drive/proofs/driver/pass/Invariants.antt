@@ -1,6 +1,6 @@
 use Rattle.std.proofs.Common.{◌≡◌}
 use Rattle.std.specs.List.{range_with_len}
-use Rattle.bf_drive.specs.Drives.{AreAt, Turns}
+use Rattle.bf_drive.specs.Drives.{AreAt, Leads, Turns}
 use Rattle.bf_drive.specs.Lighter.{IsLighter}
 use Rattle.bf_drive.proofs.driver.pass.Given as goal
 
@@ -8,5 +8,5 @@ abbrev pub invariant-loop-rank : goal.invariant-loop-rank
 invariant-loop-rank g l =
     (l.world.setup ≡ l.fn.world.setup)
     × (AreAt g.P.RankProgram.meanings g.P.RankProgram.good l.setup l.world.journal l.ranks
-    × (Turns g.P.RankProgram.meanings g.P.RankProgram.good l.setup (range_with_len 0 l.rank) l.fn.world.journal l.world.journal
+    × (Leads (Turns g.P.RankProgram.meanings g.P.RankProgram.good l.setup (range_with_len 0 l.rank)) l.fn.world.journal l.world.journal l.fn.ranks l.ranks
     × IsLighter g.P.RankProgram.meanings l.setup l.fn.world.journal l.world.journal))
