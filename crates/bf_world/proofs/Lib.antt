@@ -27,3 +27,4 @@ pub mod LostLemmas
 pub mod DecisionLemmas
 pub mod FateLemmas
 pub mod SnapshotLemmas
+pub mod WantLemmas

@@ -17,3 +17,11 @@ tells_of_death (Arrive rank Broken) = true
 tells_of_death (Arrive rank _) = false
 tells_of_death (Leave rank) = false
 tells_of_death (Die rank) = true
+
+-- whether an event is a death
+abbrev pub is_death : Event → Bool
+is_death (Send rank to blocks sum) = false
+is_death (Recv rank peer) = false
+is_death (Arrive rank how) = false
+is_death (Leave rank) = false
+is_death (Die rank) = true

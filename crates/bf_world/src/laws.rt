@@ -10,7 +10,7 @@ ghost use Rattle.bf_core.specs.declared.outcome.Outcome.TheVariants.{Finished, L
 ghost use Rattle.bf_core.specs.States.{is_finished};
 ghost use Rattle.bf_core.specs.Legal.{is_memory};
 ghost use Rattle.bf_core.specs.Orders.{IsReached};
-ghost use Rattle.bf_world.specs.Ends.{NobodyDies, tells_of_death};
+ghost use Rattle.bf_world.specs.Ends.{NobodyDies, tells_of_death, is_death};
 ghost use Rattle.bf_world.specs.Queues.{no_messages};
 ghost use Rattle.bf_world.specs.Results.{parcels_of};
 ghost use Rattle.bf_world.specs.Runs.{run_after, is_journal, is_legal_in, last_locals};
@@ -70,6 +70,12 @@ pub fn a_complete_run_has_an_end<P: RankProgram>()
 pub fn want_of_memory_has_a_cause<P: RankProgram>()
     ensures { (setup : P.Setup) (journal : List Event) → IsTrue (is_journal P.meanings setup journal)
         → (core_after P.meanings setup journal).outcome ≡ Some Memory → IsTrue (list_any is_memory journal) }
+{}
+
+/// Where nobody has died, a run finishes only if nobody has arrived for want of memory.
+pub fn a_finished_run_without_deaths_wants_no_memory<P: RankProgram>()
+    ensures { (setup : P.Setup) (journal : List Event) → IsTrue (is_journal P.meanings setup journal)
+        → (core_after P.meanings setup journal).outcome ≡ Some Finished → list_any is_death journal ≡ false → list_any is_memory journal ≡ false }
 {}
 
 /// Where no rank is to die, no part is lost.
