@@ -291,11 +291,11 @@ fn what_is_no_case_is_refused(rt: HostRuntime) -> Result<(), Fail> {
 }
 
 /// A line that no case has, after so many blank lines behind a case's head.
-fn expect_late_refusal(rt: &impl Abort, alloc: Global, blank: usize) -> Result<(), Fail> {
-    let line = blank.wrapping_add(END + 1) as u32;
+fn expect_late_refusal(rt: &impl Abort, alloc: Global, blank: u16) -> Result<(), Fail> {
+    let line = u32::from(blank) + 14;
     for command in ["one", "drive"] {
         let mut text = text_with(alloc, &[(END, "")])?;
-        let blanks = vec![in alloc; b'\n'; blank]?;
+        let blanks = vec![in alloc; b'\n'; usize::from(blank)]?;
         text.extend_from_slice(blanks.as_slice())?;
         text.extend_from_slice(b"fill 0 0 0 2 0 0 1\nend\n")?;
         expect_refusal(rt, alloc, command, text, line, 11)?;

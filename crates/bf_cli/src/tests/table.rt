@@ -82,12 +82,12 @@ fn next_of(members: &[u32], rank: u32) -> u32 {
 
 /// A lone member is its own buddy. Else the buddy is one step on, and more by the shift, without coming round.
 fn buddy_of(homes: &[u32], home: u32, shift: u32) -> u32 {
-    let others = homes.iter().filter(|other| **other != home).count() as u32;
+    let others = homes.iter().filter(|other| **other != home).count();
     if others == 0 {
         return home;
     }
     let mut buddy = home;
-    for _ in 0..=shift % others {
+    for _ in 0..=shift as usize % others {
         buddy = next_of(homes, buddy);
     }
     buddy
@@ -171,19 +171,33 @@ impl Told {
         Ok(())
     }
 
-    fn restore(&mut self, alloc: Global, shape: &Shape) -> Result<(), Fail> {
-        let dead = self.dead.as_slice();
-        self.members.retain(|member| !dead.contains(member));
-        let mut owners = Vec::new(alloc);
+    fn live_members(&self, alloc: Global) -> Result<Vec<u32>, Fail> {
+        let mut live = Vec::new(alloc);
+        for member in self.members.as_slice() {
+            if !self.is_dead(*member) {
+                live.push(*member)?;
+            }
+        }
+        Ok(live)
+    }
+
+    /// By root, who goes on with its copy.
+    fn heirs(&self, alloc: Global, shift: u32) -> Result<Vec<u32>, Fail> {
+        let mut heirs = Vec::new(alloc);
         for home in self.copies.as_slice() {
             let heir = if self.is_dead(*home) {
-                buddy_of(self.homes.as_slice(), *home, shape.shift)
+                buddy_of(self.homes.as_slice(), *home, shift)
             } else {
                 *home
             };
-            owners.push(heir)?;
+            heirs.push(heir)?;
         }
-        self.owners = owners;
+        Ok(heirs)
+    }
+
+    fn restore(&mut self, alloc: Global, shape: &Shape) -> Result<(), Fail> {
+        self.members = self.live_members(alloc)?;
+        self.owners = self.heirs(alloc, shape.shift)?;
         self.target = self.time;
         Ok(())
     }
@@ -280,20 +294,20 @@ fn expect_by_journal(
     let text = text_of(alloc, shape, end)?;
     let (alone, map) = run(alloc, "one", text.as_str())?;
     assert_eq!(rt; alone.status, Status::Ok);
-    let (ended, printed) = run(alloc, "drive", text.as_str())?;
-    let Some(world) = ended.world else {
+    let (Ended { status, world }, printed) = run(alloc, "drive", text.as_str())?;
+    let Some(world) = world else {
         panic!(rt; "no world");
     };
     match outcome_of(alloc, shape, world.journal())? {
         Some(Outcome::Lost { time, home, buddy }) => {
             let line = format!(in alloc; "lost time {time} home {home} buddy {buddy}\n")?;
-            assert_eq!(rt; ended.status, Status::Lost { time, home, buddy });
+            assert_eq!(rt; status, Status::Lost { time, home, buddy });
             assert_eq!(rt; printed.written(), line.as_bytes());
             Ok(true)
         }
         outcome => {
             assert_eq!(rt; outcome, Some(Outcome::Finished));
-            assert_eq!(rt; ended.status, Status::Ok);
+            assert_eq!(rt; status, Status::Ok);
             assert_eq!(rt; printed.written(), map.written());
             Ok(false)
         }
