@@ -247,16 +247,27 @@ fn outcome_of(alloc: Global, shape: &Shape, journal: &[Event]) -> Result<Option<
     Ok(told.outcome)
 }
 
-/// The lines of so many deaths, of one rank after the other in a ring, each some events after the one before.
-fn deaths(alloc: Global, shape: &Shape, count: u32, first: u32) -> Result<String, Fail> {
-    let mut lines = String::new(alloc);
-    for number in 0..count {
-        let rank = first.wrapping_add(number) % shape.ranks.max(1);
-        let events = first.wrapping_add(number.wrapping_mul(4));
-        let line = format!(in alloc; "die {rank} {events}\n")?;
-        lines.push_str(line.as_str())?;
+/// Who dies when: so many ranks one after the other in a ring, the first after so many events, and each next one after so many more.
+#[derive(Clone, Copy)]
+struct Dying {
+    count: u32,
+    first: u32,
+    events: u32,
+    apart: u32,
+}
+
+impl Dying {
+    /// The lines that say so.
+    fn lines(&self, alloc: Global, ranks: u32) -> Result<String, Fail> {
+        let mut lines = String::new(alloc);
+        for number in 0..self.count {
+            let rank = self.first.wrapping_add(number) % ranks.max(1);
+            let events = self.events.wrapping_add(number.wrapping_mul(self.apart));
+            let line = format!(in alloc; "die {rank} {events}\n")?;
+            lines.push_str(line.as_str())?;
+        }
+        Ok(lines)
     }
-    Ok(lines)
 }
 
 fn text_of(alloc: Global, shape: &Shape, end: &str) -> Result<String, Fail> {
@@ -314,24 +325,52 @@ fn expect_by_journal(
     }
 }
 
+/// How many runs there were, and how many of them were lost.
+#[derive(Clone, Copy)]
+struct Tally {
+    runs: u32,
+    losses: u32,
+}
+
+/// Runs a shape with so many deaths, of which the first is that of each rank after each of its first events.
+fn run_shape(
+    rt: &impl Abort,
+    alloc: Global,
+    shape: &Shape,
+    count: u32,
+    tally: &mut Tally,
+) -> Result<(), Fail> {
+    for first in 0..shape.ranks {
+        for events in 0..12u32 {
+            let mix = first.wrapping_add(events).wrapping_add(count);
+            let dying = Dying {
+                count,
+                first,
+                events,
+                apart: mix % 5,
+            };
+            let lines = dying.lines(alloc, shape.ranks)?;
+            let order = ORDERS.get(mix as usize % 3).map_or("", |order| *order);
+            let end = format!(in alloc; "{lines}{order}")?;
+            let lost = expect_by_journal(rt, alloc, shape, end.as_str())?;
+            tally.runs = tally.runs.wrapping_add(1);
+            tally.losses = tally.losses.wrapping_add(u32::from(lost));
+        }
+    }
+    Ok(())
+}
+
+/// Both ends are common: a loss, and the map.
 #[test]
 fn deaths_at_every_early_event(rt: HostRuntime) -> Result<(), Fail> {
     let alloc = rt.alloc();
-    let mut runs = 0u32;
-    let mut losses = 0u32;
+    let mut tally = Tally { runs: 0, losses: 0 };
     for shape in &SHAPES {
         for count in 1..=shape.ranks.min(4) {
-            for first in 0..12 {
-                let order = ORDERS.get(first as usize % 3).map_or("", |order| *order);
-                let dying = deaths(alloc, shape, count, first)?;
-                let end = format!(in alloc; "{dying}{order}")?;
-                let lost = expect_by_journal(&rt, alloc, shape, end.as_str())?;
-                runs = runs.wrapping_add(1);
-                losses = losses.wrapping_add(u32::from(lost));
-            }
+            run_shape(&rt, alloc, shape, count, &mut tally)?;
         }
     }
-    assert_eq!(rt; runs, 204);
-    assert!(rt; losses > 50 && losses < 150);
+    assert_eq!(rt; tally.runs, 780);
+    assert!(rt; tally.losses > 200 && tally.losses < 580);
     Ok(())
 }
