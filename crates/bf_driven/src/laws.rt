@@ -23,11 +23,13 @@ ghost use Rattle.bf_forest.specs.Leaves.{AreLeaves, bare_blocks};
 ghost use Rattle.bf_forest.specs.Meanings.{forest, pieces};
 ghost use Rattle.bf_rank.specs.Ranks.{last_decided};
 ghost use Rattle.bf_driven.specs.Held.{IsHeld, IsHolder, MustLeave, HadMemory, agreed_side};
+ghost use Rattle.bf_driven.specs.Losses.{EndsByDeaths};
 ghost use Rattle.bf_driven.specs.Parcels.{blocks_of};
 
 use bf_forest::Forest;
 use bf_forest::laws::{
-    good_vectors_are_those_dealt, some_home_has_a_block, the_blocks_are_the_models_leaves,
+    a_part_has_a_block_where_its_home_has_a_leaf, good_vectors_are_those_dealt,
+    some_home_has_a_block, the_blocks_are_the_models_leaves,
 };
 use bf_owners::laws::{each_unit_has_one_owner, no_unit_has_two_live_owners};
 use bf_rank::laws::{
@@ -38,6 +40,10 @@ use bf_world::laws::{
     a_complete_run_has_an_end, a_complete_run_without_deaths_ends, a_finished_run_has_every_parcel,
     a_finished_run_is_at_its_end, each_epoch_begins_good, the_last_locals_are_good,
 };
+use bf_world::losses::{
+    a_complete_run_has_a_last_decision, a_run_is_lost_exactly_where_both_holders_died,
+};
+use bf_world::snapshots::what_is_stored_is_in_the_first_locals;
 
 /// Whatever order the events took and whoever died: once a run has finished, the blocks of its parcels are the leaves of
 /// the model's last map with their cells, each leaf once.
@@ -98,6 +104,21 @@ pub fn each_unit_of_the_domain_has_one_owner()
 {
     each_unit_has_one_owner::<Forest>();
     no_unit_has_two_live_owners::<Forest>();
+}
+
+/// Once each rank is dead or has left, the run has a last decision, and it is lost exactly where both holders of some block of the
+/// snapshot agreed until then have died by that decision: the home of a leaf, and that home's buddy.
+pub fn a_run_is_lost_exactly_where_both_holders_of_a_block_died()
+    ensures { (setup : Setup) (journal : List Event) → IsTrue (is_journal forest setup journal)
+        → IsTrue (is_finished (core_after forest setup journal)) → EndsByDeaths setup journal }
+{
+    each_epoch_begins_good::<Forest>();
+    some_home_has_a_block();
+    good_vectors_are_those_dealt();
+    a_part_has_a_block_where_its_home_has_a_leaf();
+    what_is_stored_is_in_the_first_locals::<Forest>();
+    a_complete_run_has_a_last_decision::<Forest>();
+    a_run_is_lost_exactly_where_both_holders_died::<Forest>();
 }
 
 /// Blocks that are the leaves of a map of the model, put in rising order of their roots, are the map.

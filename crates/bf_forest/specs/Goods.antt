@@ -116,3 +116,7 @@ pub record HasParts (c : Case) (time : ℕ) (homes : List ℕ) (home : BlockId �
 -- what a member has of the agreed snapshot
 abbrev pub HasAgreed : Case → Epoch → (home : BlockId → ℕ) → ForestLocal → Type 0
 HasAgreed c epoch home local = HasParts c epoch.time epoch.homes home local.rank local.buffers.active
+
+-- a rank is the home of some leaf of a time's map
+abbrev pub HasLeaf : Case → (time : ℕ) → (home : BlockId → ℕ) → (rank : ℕ) → Type 0
+HasLeaf c time home rank = (leaf : BlockId) × (Contains (ids_of (model c time)) leaf × (home leaf ≡ rank))

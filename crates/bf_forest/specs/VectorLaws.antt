@@ -1,6 +1,6 @@
 -- What members have and tell where blocks are dealt to them: linked blocks, parts of the agreed snapshot, neighbours, strips.
 use Rattle.std.proofs.Common.{◌≡◌, ℕ, ◌<◌, Bool, true, false, cond, List, [], ◌⊎◌, inl, inr, Contains, filter, refl, sym, ap, subst, ◌∙◌, All}
-use Rattle.std.specs.Prelude.{◌==◌, ◌&&◌, ◌↔◌, not}
+use Rattle.std.specs.Prelude.{◌==◌, ◌&&◌, ◌↔◌, not, IsTrue}
 use Rattle.std.specs.List.{list_any}
 use Rattle.std.proofs.lemmas.Bool.{and_from, and_parts, or_cases, eq-eqb, eqb-true, false_from_ne_true}
 use Rattle.std.specs.List.Sorted.{IsStrictlyIncreasing}
@@ -10,6 +10,7 @@ use Rattle.bf_lemmas.proofs.Lists.{All-from_Contains, map_twice}
 use Rattle.bf_buddy.specs.Buddy.{buddy_of, predecessor_of}
 use Rattle.bf_buddy.specs.Members.{is_member}
 use Rattle.bf_buddy.proofs.LawLemmas.{buddy_undoes}
+use Rattle.bf_buddy.proofs.MemberLemmas.{member_filter}
 use Rattle.bf_id.specs.Id.{BlockId, touches}
 use Rattle.bf_case.specs.declared.case.Case.{Case}
 use Rattle.bf_case.specs.Map.{ids_of}
@@ -24,7 +25,9 @@ use Rattle.bf_ghost.specs.Telling.{told_strips}
 use Rattle.bf_parts.specs.Leaves.{copy_at, is_filled, part_of, side_at}
 use Rattle.bf_parts.specs.SideLaws.{predecessor_member}
 use Rattle.bf_program.specs.declared.epoch.Epoch.{Epoch}
+use Rattle.bf_stages.proofs.StartLemmas.{stored_told}
 use Rattle.bf_stages.specs.Plans.{span}
+use Rattle.bf_msg.specs.LinkedBlocks.{linked_kind}
 use Rattle.bf_msg.specs.declared.linked_block.LinkedBlock.{LinkedBlock}
 use Rattle.bf_msg.specs.declared.message.Message.TheVariants.{Step as StepMessage}
 use Rattle.bf_forest.specs.declared.local.ForestLocal.{ForestLocal}
@@ -33,13 +36,16 @@ use Rattle.bf_forest.specs.declared.stage.Stage.{Stage}
 use Rattle.bf_forest.specs.Setup.{case_of, every_setup_keeps_roots}
 use Rattle.bf_forest.specs.BlockLaws.{block_is, part_each}
 use Rattle.bf_forest.specs.Cases.{KeepsRoots}
-use Rattle.bf_forest.specs.Goods.{local_at, AreDealt, AreNeighbors, HasAgreed, HasLinked, HasParts, IsLinkedBlock, IsPart}
+use Rattle.bf_forest.specs.Goods.{local_at, AreDealt, AreNeighbors, HasAgreed, HasLeaf, HasLinked, HasParts, IsLinkedBlock, IsPart}
+use Rattle.bf_forest.specs.ForestLaws.{sides}
+use Rattle.bf_forest.specs.LeafLaws.{placed_where_dealt, told_where_dealt, world_of}
 use Rattle.bf_forest.specs.Meanings.{forest}
 use Rattle.bf_forest.specs.ModelBlocks.{blocks_at, linked_at}
 use Rattle.bf_forest.specs.NeighborLaws.{linked_is}
 use Rattle.bf_forest.specs.Rounds.{is_linked, is_neighbor, play_of, strips_to}
 use Rattle.bf_forest.specs.StageLaws.{stage_step}
 use Rattle.bf_forest.specs.Stages.{time_at}
+use Rattle.bf_forest.specs.Staging.{Runs, forest_staging}
 use Rattle.bf_forest.specs.StripLaws.{member_contains, part_tells}
 
 -- LINKS
@@ -116,6 +122,29 @@ all_agreed setup epoch round owner home locals dealt =
     subst (HasAgreed c epoch home) (sym is.2)
     (parts_at c epoch.time epoch.homes home is.0 (every_setup_keeps_roots setup) dealt.held.homes_rise
     (dealt.held.among is.0 (any_from_passes (λ member. member == is.0) epoch.members is.0 is.1 (eq-eqb is.0 is.0 refl)))))
+
+-- the homes that have a leaf are those whose part has a block
+pub all_stored : (setup : Setup) (epoch : Epoch) (round : ℕ) (owner home : BlockId → ℕ) (locals : List ForestLocal) (rank : ℕ) → Runs (case_of setup) epoch
+    → AreDealt (case_of setup) epoch round owner home locals → IsTrue (is_member (forest.stored locals) rank) ↔ HasLeaf (case_of setup) epoch.time home rank
+unfolding blocks_at is_filled
+all_stored setup epoch round owner home locals rank runs dealt =
+    let c : Case = case_of setup in
+    let ids : List BlockId = ids_of (model c epoch.time) in
+    let is_its : BlockId → Bool = λ i. home i == rank in
+    let stored : is_member (forest.stored locals) rank ≡ (is_member epoch.homes rank && list_any is_its ids) =
+    ap (λ (ls : List ForestLocal). is_member (forest.stored ls) rank) (told_where_dealt setup epoch round owner home locals runs dealt)
+    ∙ ap (λ homes. is_member homes rank)
+    (stored_told forest forest_staging linked_kind setup (sides setup) epoch round (world_of owner home) (placed_where_dealt setup epoch round owner home locals runs dealt))
+    ∙ member_filter (is_filled (blocks_at c epoch.time) home) epoch.homes rank in (
+      λ in_stored.
+          let found = passes_from_any is_its ids (and_parts (is_member epoch.homes rank) _ (sym stored ∙ in_stored)).1 in
+          (found.0, (found.1, eqb-true (home found.0) rank found.2)),
+      λ has.
+          let filled : list_any is_its ids ≡ true = any_from_passes is_its ids has.0 has.1.0 (eq-eqb (home has.0) rank has.1.1) in
+          let is_home : is_member epoch.homes rank ≡ true =
+          subst (λ r. is_member epoch.homes r ≡ true) has.1.1 (All-contains (λ i. is_member epoch.homes (home i) ≡ true) ids has.0 dealt.housed has.1.0) in
+          stored ∙ rw (is_home, filled) refl,
+    )
 
 -- each leaf has a home, and that or its buddy is a member
 pub all_housed : (setup : Setup) (epoch : Epoch) (round : ℕ) (owner home : BlockId → ℕ) (locals : List ForestLocal) (leaf : BlockId) → AreDealt (case_of setup) epoch round owner home locals

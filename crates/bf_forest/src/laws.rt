@@ -19,7 +19,7 @@ ghost use Rattle.bf_forest.specs.declared.setup.Setup.{Setup};
 ghost use Rattle.bf_forest.specs.Setup.{case_of};
 ghost use Rattle.bf_forest.specs.declared.local.ForestLocal.{ForestLocal};
 ghost use Rattle.bf_msg.specs.declared.message.Message.{Message};
-ghost use Rattle.bf_forest.specs.Goods.{IsGood, AreDealt, AreNeighbors, ArePartners, HasAgreed, HasCopies, HasLinked, HasParts, TileDomain};
+ghost use Rattle.bf_forest.specs.Goods.{IsGood, AreDealt, AreNeighbors, ArePartners, HasAgreed, HasCopies, HasLeaf, HasLinked, HasParts, TileDomain};
 ghost use Rattle.bf_forest.specs.Leaves.{AreLeaves, bare_blocks};
 ghost use Rattle.bf_forest.specs.Meanings.{forest, pieces};
 ghost use Rattle.bf_ghost.specs.Telling.{told_strips};
@@ -198,6 +198,13 @@ pub fn an_epoch_has_a_round_for_each_step()
         → rounds_of forest_plan epoch ≡ epoch.target - epoch.time + 1 }
     ensures target { (setup : Setup) (epoch : Epoch) (round : ℕ) (locals : List ForestLocal) → IsGood setup epoch round locals
         → epoch.target ≡ target_in (case_of setup).steps (case_of setup).snapshot epoch }
+{}
+
+/// The homes whose part of the agreed snapshot has a block are exactly the homes of its leaves.
+pub fn a_part_has_a_block_where_its_home_has_a_leaf()
+    ensures { (setup : Setup) (epoch : Epoch) (round : ℕ) (owner home : BlockId → ℕ) (locals : List ForestLocal) (rank : ℕ) → Runs (case_of setup) epoch
+        → AreDealt (case_of setup) epoch round owner home locals
+        → (IsTrue (is_member (forest.stored locals) rank) ↔ HasLeaf (case_of setup) epoch.time home rank) }
 {}
 
 /// Some home's part of the agreed snapshot has a block.

@@ -12,6 +12,12 @@ ghost use Rattle.bf_world.specs.Worlds.{core_after, brings_decision, brings_rest
 use bf_program::RankProgram;
 use bf_program::laws::a_restore_gives_each_part_once;
 
+/// The homes whose part of the agreed snapshot has a block are those that the locals tell with which the epoch began.
+pub fn what_is_stored_is_in_the_first_locals<P: RankProgram>()
+    ensures { (setup : P.Setup) (journal : List Event) → IsTrue (is_journal P.meanings setup journal)
+        → (core_after P.meanings setup journal).stored ≡ P.meanings.stored (run_after P.meanings setup journal).start }
+{}
+
 /// Between decisions the epoch stays, and so does the agreed snapshot.
 pub fn one_snapshot_is_agreed_at_a_time<P: RankProgram>()
     ensures { (setup : P.Setup) (journal : List Event) (event : Event)
