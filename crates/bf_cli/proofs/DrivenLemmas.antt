@@ -21,6 +21,7 @@ use Rattle.bf_drive.specs.Drives.{IsDriven}
 use Rattle.bf_forest.specs.Goods.{IsGood}
 use Rattle.bf_forest.specs.Leaves.{AreLeaves}
 use Rattle.bf_forest.specs.Meanings.{forest}
+use Rattle.bf_driven.specs.Losses.{EndsByDeaths}
 use Rattle.bf_driven.specs.Parcels.{blocks_of}
 use Rattle.bf_cli.specs.Answers.{model_text}
 use Rattle.bf_cli.specs.Driven.{ForestWorld, HasRun, outcome_of}
@@ -52,14 +53,20 @@ abbrev pub HasEnd : Type 0
 HasEnd = (setup : Setup) (journal : List Event) → IsTrue (is_journal forest setup journal)
     → IsTrue (is_finished (core_after forest setup journal)) → IsTrue (is_some (core_after forest setup journal).outcome)
 
+-- what is known of who died in it
+abbrev pub HasDeaths : Type 0
+HasDeaths = (setup : Setup) (journal : List Event) → IsTrue (is_journal forest setup journal)
+    → IsTrue (is_finished (core_after forest setup journal)) → EndsByDeaths setup journal
+
 -- the ranks have run the case of their world
-pub has_run : (c : Case) (w : ForestWorld) → HasEnd → IsView forest w → case_of w.setup ≡ c → IsTrue (is_finished (core_after forest w.setup w.journal))
+pub has_run : (c : Case) (w : ForestWorld) → HasEnd → HasDeaths → IsView forest w → case_of w.setup ≡ c → IsTrue (is_finished (core_after forest w.setup w.journal))
     → IsDriven forest IsGood w.setup c.order w.journal → HasRun w
-has_run c w has_end view is complete driven = record {
+has_run c w has_end has_deaths view is complete driven = record {
   legal = view.legal;
   driven = subst (λ (k : Case). IsDriven forest IsGood w.setup k.order w.journal) (sym is) driven;
   complete = complete;
   ended = has_end w.setup w.journal view.legal complete;
+  deaths = has_deaths w.setup w.journal view.legal complete;
 }
 
 -- what is known of every complete run of a case in which nobody is to die

@@ -10,6 +10,7 @@ use Rattle.bf_core.specs.States.{is_finished}
 use Rattle.bf_world.specs.Runs.{is_journal}
 use Rattle.bf_world.specs.Worlds.{View, core_after}
 use Rattle.bf_drive.specs.Drives.{IsDriven}
+use Rattle.bf_driven.specs.Losses.{EndsByDeaths}
 use Rattle.bf_forest.specs.Goods.{IsGood}
 use Rattle.bf_forest.specs.Meanings.{forest}
 use Rattle.bf_cli.specs.declared.command.Command.TheVariants as commands
@@ -23,12 +24,14 @@ ForestWorld = View Setup Message (List LinkedBlock)
 abbrev pub outcome_of : ForestWorld → Option Outcome
 outcome_of world = (core_after forest world.setup world.journal).outcome
 
--- each event was legal in its turn, the journal is one to which the case's order leads, each rank is dead or has ended, and the run has an end
+-- each event was legal in its turn, the journal is one to which the case's order leads, each rank is dead or has ended, and the run has an end: it is lost
+-- exactly where both holders of some block of the snapshot that was agreed last have died by the last decision
 pub record HasRun (world : ForestWorld) : Type 0 where
   pub legal : IsTrue (is_journal forest world.setup world.journal)
   pub driven : IsDriven forest IsGood world.setup (case_of world.setup).order world.journal
   pub complete : IsTrue (is_finished (core_after forest world.setup world.journal))
   pub ended : IsTrue (is_some (outcome_of world))
+  pub deaths : EndsByDeaths world.setup world.journal
 
 -- its run ended for want of memory, or it has finished, and then the list of its leaves may find none
 abbrev pub IsWanting : ForestWorld → Type 0

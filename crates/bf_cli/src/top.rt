@@ -12,7 +12,10 @@ use crate::command::{Command, command_of};
 use crate::input::{Input, read_input};
 use crate::status::{Ended, Status};
 use bf_case::Case;
-use bf_driven::laws::{a_case_without_deaths_ends, a_complete_run_ends};
+use bf_driven::laws::{
+    a_case_without_deaths_ends, a_complete_run_ends,
+    a_run_is_lost_exactly_where_both_holders_of_a_block_died,
+};
 use bf_driven::run;
 use bf_edge::{Memory, ReadEnd, Sink, Source, read_up_to};
 use bf_plain::one_run;
@@ -35,6 +38,7 @@ fn run_case(alloc: Global, command: Command, case: Case) -> Result<Answer, Memor
             let world = run(alloc, case)?;
             world.known();
             a_complete_run_ends();
+            a_run_is_lost_exactly_where_both_holders_of_a_block_died();
             Ok(Answer::World(world))
         }
     }
