@@ -16,47 +16,23 @@ use Rattle.bf_core.specs.declared.event.Event.{Event}
 use Rattle.bf_core.specs.declared.event.Event.TheVariants.{Send, Recv, Arrive, Leave, Die}
 use Rattle.bf_core.specs.declared.outcome.Outcome.{Outcome}
 use Rattle.bf_core.specs.declared.outcome.Outcome.TheVariants as outcomes
-use Rattle.bf_core.specs.declared.place.Place.{Place}
 use Rattle.bf_core.specs.declared.place.Place.TheVariants.{Past}
-use Rattle.bf_core.specs.declared.standing.Stage.TheVariants.{Running, Leaving, Ended, Dead}
-use Rattle.bf_core.specs.Stages.{is_leaving, is_gone, has_finished_rounds, goes_on, lives}
-use Rattle.bf_core.specs.Places.{is_just, next_receive}
-use Rattle.bf_core.specs.States.{State, stage, is_active, opening}
+use Rattle.bf_core.specs.declared.standing.Stage.TheVariants.{Leaving}
+use Rattle.bf_core.specs.Stages.{is_leaving, is_gone, has_finished_rounds, lives}
+use Rattle.bf_core.specs.States.{State, stage, opening}
 use Rattle.bf_core.specs.Legal.{is_legal, actor}
 use Rattle.bf_core.specs.Next.{may_decide, happened, is_ripe, decision, decided, dissolved, ended, committed, restored}
-use Rattle.bf_core.proofs.StageLemmas.{is_rank, stage_same}
-use Rattle.bf_core.proofs.SoundLemmas.{is_open, acting, in_list, leaving_stage, active_of, opening_fails}
+use Rattle.bf_core.proofs.StageLemmas.{is_rank}
+use Rattle.bf_core.proofs.SoundLemmas.{is_open, acting, active_of, opening_fails}
 use Rattle.bf_core.proofs.LawLemmas.{step_of, IsSameEpoch, same_epoch}
 use Rattle.bf_world.specs.Course.{first_place}
 use Rattle.bf_world.specs.Runs.{Run, place, begun, last_locals, will_be_filled, run_happened, run_decided, next_run, is_legal_in, opening_run, run_from, is_legal_from, run_after, is_journal}
 use Rattle.bf_world.proofs.HoldLemmas.{begins_at}
+use Rattle.bf_world.proofs.LeaveLemmas.{none_leaves}
 use Rattle.bf_world.proofs.LawfulLemmas.{IsLawful, next_lawful, opening_lawful}
 use Rattle.bf_world.proofs.MemberLemmas.{Apart, apart_range}
 use Rattle.bf_world.proofs.ResultLemmas.{gives, IsGiven, IsResult, unopened, happened_given, done_members, unripe_next, next_result, opening_result}
 use Rattle.bf_world.proofs.RunLemmas.{ripe_next}
-
--- no event makes its rank leave
-none_leaves : (state : State) (event : Event) (place : Place) (filled : Bool) → is_legal state event place ≡ true
-    → is_leaving (stage (happened state event filled) (actor event)) ≡ false
-none_leaves state (Send rank to blocks sum) place filled legal =
-    let runs : stage state rank ≡ Running = acting state rank (and_parts (is_active state rank) _ legal).0 in
-    ap is_leaving (stage_same state rank (stage state rank) (in_list state rank runs) ∙ runs)
-none_leaves state (Recv rank peer) place filled legal =
-    let runs : stage state rank ≡ Running =
-    acting state rank (and_parts (is_active state rank) _ (and_parts (is_active state rank && is_just (next_receive place) peer) _ legal).0).0 in
-    ap is_leaving (stage_same state rank (stage state rank) (in_list state rank runs) ∙ runs)
-none_leaves state (Arrive rank how) place filled legal =
-    ap is_leaving (stage_same state rank _ (in_list state rank (acting state rank (active_of state rank how place legal))))
-none_leaves state (Leave rank) place filled legal =
-    let leaving : stage state rank ≡ Leaving = leaving_stage state rank (and_parts (is_leaving (stage state rank)) _ legal).0 in
-    ap is_leaving (stage_same state rank (if is_some state.outcome then Ended else Running) (is_rank is_leaving state rank refl (ap is_leaving leaving)))
-    ∙ by_end (is_some state.outcome)
-  where
-    by_end : (b : Bool) → is_leaving (if b then Ended else Running) ≡ false
-    by_end true = refl
-    by_end false = refl
-none_leaves state (Die rank) place filled legal =
-    ap is_leaving (stage_same state rank Dead (is_rank goes_on state rank refl (and_parts (goes_on (stage state rank)) _ legal).0))
 
 module _ {S L M T R : Type 0} (m : Meanings S L M T R) (setup : S) where
   -- who must leave stands where the epoch begins

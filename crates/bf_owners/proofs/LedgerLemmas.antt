@@ -14,7 +14,7 @@ use Rattle.bf_program.specs.Lockstep.{local_of, after_sends, message, after_rece
 use Rattle.bf_program.proofs.SeatLemmas.{local_before}
 use Rattle.bf_core.specs.declared.place.Place.{Place}
 use Rattle.bf_core.specs.declared.place.Place.TheVariants.{Rounds, Past}
-use Rattle.bf_world.specs.Course.{local_at, peers_at, message_at}
+use Rattle.bf_world.specs.Course.{local_at, local_in_round, local_at_place, peers_at, message_at}
 use Rattle.bf_world.specs.Messages.{listed, sent_in, sent_before, sent_to, received_in, received_before, received_from}
 use Rattle.bf_world.proofs.MemberLemmas.{Apart}
 use Rattle.bf_world.proofs.MessageLemmas.{message_of}
@@ -22,7 +22,6 @@ use Rattle.bf_world.proofs.PeerLemmas.{option_cases, among_all, member_at, peers
 use Rattle.bf_world.proofs.PlaceLemmas.{IsPlaced}
 use Rattle.bf_world.proofs.StepLemmas.{sending, receiving, finishing, sends_more, message_next, receives_more, receives_none, next_local}
 use Rattle.std.specs.Option.{option_map}
-use Rattle.bf_owners.specs.Owners.{local_in_round, local_at_place}
 use Rattle.bf_owners.proofs.SumLemmas.{sum_alike, sum_both, sum_listed}
 
 -- what may be there weighs what it holds

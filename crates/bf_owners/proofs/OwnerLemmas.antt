@@ -25,7 +25,7 @@ use Rattle.bf_core.specs.States.{stage, has_dead_member, is_short_of_memory}
 use Rattle.bf_core.proofs.ArrivalLemmas.{has_ended}
 use Rattle.bf_core.proofs.SoundLemmas.{is_open}
 use Rattle.bf_core.proofs.StageLemmas.{nobody_any}
-use Rattle.bf_world.specs.Course.{local_at, first_place}
+use Rattle.bf_world.specs.Course.{local_at, local_in_round, local_at_place, first_place}
 use Rattle.bf_world.specs.Messages.{sent_to, received_from}
 use Rattle.bf_world.specs.Queues.{messages, no_messages}
 use Rattle.bf_world.specs.Runs.{Run, place, parcel_with, last_local, run_after}
@@ -36,7 +36,7 @@ use Rattle.bf_world.proofs.MemberLemmas.{Apart}
 use Rattle.bf_world.proofs.MessageLemmas.{sent_at_first, received_at_first}
 use Rattle.bf_world.proofs.QueueLemmas.{messages_of_none}
 use Rattle.bf_world.proofs.ResultLemmas.{gives, IsGiven, IsResult, after_result}
-use Rattle.bf_owners.specs.Owners.{local_in_round, local_at_place, local_here, local_by, boxes_of, held, awaited, given, owned, times_owned, all_ranks, live_ranks, IsUnhurt}
+use Rattle.bf_owners.specs.Owners.{local_here, local_by, boxes_of, held, awaited, given, owned, times_owned, all_ranks, live_ranks, IsUnhurt}
 use Rattle.bf_owners.proofs.KeptLemmas.{HasRegister, IsKept, after_kept, register}
 use Rattle.bf_owners.proofs.LedgerLemmas.{weight_with, place_weighs}
 use Rattle.bf_owners.proofs.SumLemmas.{sum_alike, sum_none, sum_both, sum_joined, sum_range, sum_at_most}
@@ -106,15 +106,15 @@ module _ {S L M T R B U : Type 0} (m : Meanings S L M T R) (regions : Regions S 
           )
       at_first false other here rest = omega (arith, here, rest)
 
+  pub boxes_weigh : (o : Option L) → times regions (boxes_of regions o) unit ≡ weight_with local_times o
+  boxes_weigh (Some local) = refl
+  boxes_weigh None = refl
+
   module _ (view : View S M T) where
-    held_weighs : (rank : ℕ) → times regions (held m regions view rank) unit
+    pub held_weighs : (rank : ℕ) → times regions (held m regions view rank) unit
         ≡ weight_with local_times (local_by m view.setup (run_after m view.setup view.journal) rank (stage (run_after m view.setup view.journal).core rank))
     unfolding held
-    held_weighs rank = by_local (local_by m view.setup (run_after m view.setup view.journal) rank (stage (run_after m view.setup view.journal).core rank))
-      where
-        by_local : (o : Option L) → times regions (boxes_of m regions view o) unit ≡ weight_with local_times o
-        by_local (Some local) = refl
-        by_local None = refl
+    held_weighs rank = boxes_weigh (local_by m view.setup (run_after m view.setup view.journal) rank (stage (run_after m view.setup view.journal).core rank))
 
     -- what waits for a rank
     abbrev pub waiting_weight : (rank : ℕ) → ℕ
@@ -164,6 +164,28 @@ module _ {S L M T R B U : Type 0} (m : Meanings S L M T R) (regions : Regions S 
       by_local (Some local) its = (laws.pieces.parcel run.core.epoch _ rank local unit good_last its).1
       by_local None none = refl
 
+  -- a rank where the epoch begins began with what its local at its place holds
+  pub begins_with : ((y : ℕ) → is_member run.core.epoch.members y ≡ true → y < m.ranks setup)
+      → (rank : ℕ) → place run rank ≡ first_place m setup run.core.epoch run.start rank
+      → weight_with (local_times m regions unit) (local_of run.core.epoch.members run.start rank) ≡ weight_with (local_times m regions unit) (local_here m setup run rank)
+  begins_with below rank at =
+      let every : List ℕ = range_with_len 0 (m.ranks setup) in
+      let sent : sum_by (λ to. sum_by (message_times m regions unit) (sent_to m setup run.core.epoch run.start rank to (place run rank))) every ≡ 0 =
+      sum_alike _ (λ to. zero) every
+      (λ to. ap (λ (p : Place). sum_by (message_times m regions unit) (sent_to m setup run.core.epoch run.start rank to p)) at
+      ∙ ap (sum_by (message_times m regions unit)) (sent_at_first m setup run.core.epoch run.start rank to)) ∙ sum_none every in
+      let received : sum_by (λ from. sum_by (message_times m regions unit) (received_from m setup run.core.epoch run.start rank from (place run rank))) every ≡ 0 =
+      sum_alike _ (λ from. zero) every
+      (λ from. ap (λ (p : Place). sum_by (message_times m regions unit) (received_from m setup run.core.epoch run.start rank from p)) at
+      ∙ ap (sum_by (message_times m regions unit)) (received_at_first m setup run.core.epoch run.start rank from)) ∙ sum_none every in
+      omega (
+        arith,
+        place_weighs m regions good setup laws.goods laws.peers laws.pieces run.core.epoch run.start lawful.steady.good_start unit (m.ranks setup) below rank
+            (place run rank) (lawful.steady.placed rank),
+        sent,
+        received,
+      )
+
   module _ (none : run.core.outcome ≡ None) (kept : IsKept m setup run) (below : (y : ℕ) → is_member run.core.epoch.members y ≡ true → y < m.ranks setup)
       (its : IsGiven m setup run) where
     -- what a rank has given while the run goes on
@@ -172,28 +194,6 @@ module _ {S L M T R B U : Type 0} (m : Meanings S L M T R) (regions : Regions S 
 
     no_gift : (rank : ℕ) → (has_finished_rounds (stage run.core rank) && (run.core.epoch.target == run.core.steps)) ≡ false → gift rank ≡ 0
     no_gift rank fails = ap (λ b. cond b (weight_with (part_times m regions unit) (last_local m setup run rank)) 0) (its.who rank ∙ fails)
-
-    -- who must leave begins with what its local at its place holds
-    begins_with : (rank : ℕ) → stage run.core rank ≡ Leaving
-        → weight_with (local_times m regions unit) (local_of run.core.epoch.members run.start rank) ≡ weight_with (local_times m regions unit) (local_here m setup run rank)
-    begins_with rank leaves =
-        let at : place run rank ≡ first_place m setup run.core.epoch run.start rank = kept.begins none rank leaves in
-        let every : List ℕ = range_with_len 0 (m.ranks setup) in
-        let sent : sum_by (λ to. sum_by (message_times m regions unit) (sent_to m setup run.core.epoch run.start rank to (place run rank))) every ≡ 0 =
-        sum_alike _ (λ to. zero) every
-        (λ to. ap (λ (p : Place). sum_by (message_times m regions unit) (sent_to m setup run.core.epoch run.start rank to p)) at
-        ∙ ap (sum_by (message_times m regions unit)) (sent_at_first m setup run.core.epoch run.start rank to)) ∙ sum_none every in
-        let received : sum_by (λ from. sum_by (message_times m regions unit) (received_from m setup run.core.epoch run.start rank from (place run rank))) every ≡ 0 =
-        sum_alike _ (λ from. zero) every
-        (λ from. ap (λ (p : Place). sum_by (message_times m regions unit) (received_from m setup run.core.epoch run.start rank from p)) at
-        ∙ ap (sum_by (message_times m regions unit)) (received_at_first m setup run.core.epoch run.start rank from)) ∙ sum_none every in
-        omega (
-          arith,
-          place_weighs m regions good setup laws.goods laws.peers laws.pieces run.core.epoch run.start lawful.steady.good_start unit (m.ranks setup) below rank
-              (place run rank) (lawful.steady.placed rank),
-          sent,
-          received,
-        )
 
     -- who died before the epoch has no local
     gone_away : (rank : ℕ) → stage run.core rank ≡ Gone → local_here m setup run rank ≡ None
@@ -267,7 +267,7 @@ module _ {S L M T R B U : Type 0} (m : Meanings S L M T R) (regions : Regions S 
               arith,
               unfinished Leaving at refl,
               ap (λ (o : Option Outcome). weight_with (local_times m regions unit) (if is_some o then None else local_of run.core.epoch.members run.start rank)) none,
-              begins_with rank at,
+              begins_with below rank (kept.begins none rank at),
             ))
         by_stage Ended at = absurd (let both : true ≡ false = sym (ap has_ended at) ∙ lawful.fair.unended none rank in cc)
         by_stage Dead at = record {

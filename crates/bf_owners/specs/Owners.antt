@@ -1,36 +1,20 @@
 -- Who owns which pieces of the domain, by the journal and by what waits.
-use Rattle.std.specs.Prelude.{◌≡◌, ℕ, false, cond, nat_lt, ◌⊎◌, ◌==◌, if◌then◌else◌, List, [], ◌++◌, length, filter, Option, Some, None, is_some}
+use Rattle.std.specs.Prelude.{◌≡◌, ℕ, false, ◌⊎◌, ◌==◌, if◌then◌else◌, List, [], ◌++◌, filter, Option, Some, None, is_some}
 use Rattle.std.specs.List.{flat_map, range_with_len, sum_by}
 use Rattle.std.specs.Option.{option_map}
-use Rattle.bf_program.specs.declared.epoch.Epoch.{Epoch}
 use Rattle.bf_program.specs.Meanings.{Meanings, Regions}
 use Rattle.bf_program.specs.Laws.{times}
-use Rattle.bf_program.specs.Lockstep.{local_of, after_sends, after_receives, lockstep}
+use Rattle.bf_program.specs.Lockstep.{local_of}
 use Rattle.bf_core.specs.declared.event.How.TheVariants.{Done, Broken, Memory}
 use Rattle.bf_core.specs.declared.outcome.Outcome.TheVariants.{Finished}
-use Rattle.bf_core.specs.declared.place.Place.{Place}
-use Rattle.bf_core.specs.declared.place.Place.TheVariants.{Rounds, Past}
 use Rattle.bf_core.specs.declared.standing.Stage.{Stage}
 use Rattle.bf_core.specs.declared.standing.Stage.TheVariants.{Running, Arrived, Leaving, Ended, Dead, Gone}
 use Rattle.bf_core.specs.Stages.{lives}
 use Rattle.bf_core.specs.States.{State, stage, has_dead_member, is_short_of_memory}
-use Rattle.bf_world.specs.Course.{local_at}
+use Rattle.bf_world.specs.Course.{local_at_place}
 use Rattle.bf_world.specs.Queues.{messages}
 use Rattle.bf_world.specs.Runs.{Run, place, last_local, run_after}
 use Rattle.bf_world.specs.Worlds.{View, core_after}
-
-module _ {S L M T R : Type 0} (m : Meanings S L M T R) (setup : S) (epoch : Epoch) (start : List L) where
-  -- a rank's local of the lockstep after so many sends of a round, or after all of them and so many receives
-  abbrev pub local_in_round : (rank round sent received : ℕ) (peers : List ℕ) → L → L
-  local_in_round rank round sent received peers first =
-      cond (nat_lt sent (length peers)) (after_sends m setup epoch round first sent)
-      (after_receives m setup epoch round (lockstep m setup epoch start round) rank first received)
-
-  -- a rank's local of the lockstep at a place, if it is a member
-  unfoldable pub local_at_place : (rank : ℕ) → Place → Option L
-  local_at_place rank (Rounds round sent received peers) =
-      option_map (local_in_round rank round sent received peers) (local_at m setup epoch start rank round)
-  local_at_place rank Past = local_at m setup epoch start rank (m.rounds setup epoch)
 
 module _ {S L M T R : Type 0} (m : Meanings S L M T R) (setup : S) (run : Run L T) where
   -- a rank's local of the lockstep where it stands in a run
@@ -53,17 +37,17 @@ module _ {S L M T R : Type 0} (m : Meanings S L M T R) (setup : S) (run : Run L 
   local_by rank Dead = None
   local_by rank Gone = None
 
-module _ {S L M T R B U : Type 0} (m : Meanings S L M T R) (regions : Regions S L M T R B U) (view : View S M T) where
-  -- the boxes of a local, if there is one
-  abbrev pub boxes_of : Option L → List B
-  boxes_of (Some local) = regions.of_local local
-  boxes_of None = []
+-- the boxes of a local, if there is one
+abbrev pub boxes_of : {S L M T R B U : Type 0} → Regions S L M T R B U → Option L → List B
+boxes_of regions (Some local) = regions.of_local local
+boxes_of regions None = []
 
+module _ {S L M T R B U : Type 0} (m : Meanings S L M T R) (regions : Regions S L M T R B U) (view : View S M T) where
   -- the boxes of the local that a rank has
   unfoldable pub held : (rank : ℕ) → List B
   held rank =
       let run = run_after m view.setup view.journal in
-      boxes_of (local_by m view.setup run rank (stage run.core rank))
+      boxes_of regions (local_by m view.setup run rank (stage run.core rank))
 
   -- those of the messages that wait for it
   unfoldable pub awaited : (rank : ℕ) → List B

@@ -31,6 +31,7 @@ use Rattle.bf_world.specs.Worlds.{SendsNext, ReceivesNext, IsParcel, ArrivesAs, 
 use Rattle.bf_world.specs.declared.answers.Arrival.TheVariants as arrivals
 use Rattle.bf_world.specs.Queues.{Waiting, messages}
 use Rattle.bf_world.specs.Messages.{AreQueuesOf}
+use Rattle.bf_world.proofs.LeaveLemmas.{none_leaves}
 use Rattle.bf_world.proofs.WaitingLemmas.{queue_length}
 use Rattle.bf_world.proofs.LawfulLemmas.{IsLawful, after_lawful}
 use Rattle.bf_world.proofs.PlaceLemmas.{IsPlaced, receives_at}
@@ -43,10 +44,10 @@ use Rattle.bf_rank.specs.declared.stand.Turn.{Turn}
 use Rattle.bf_rank.specs.declared.stand.Turn.TheVariants as turns
 use Rattle.bf_rank.specs.declared.stand.Step.{Step}
 use Rattle.bf_rank.specs.declared.stand.Step.TheVariants as steps
-use Rattle.bf_rank.specs.Ranks.{RankView, Sight, sight, IsLocalAt, local_in_round, HasFinished, HasLocal, WillBegin, Agrees, IsAt, IsTurn, IsOfferedSome, TookTurn}
+use Rattle.bf_rank.specs.Ranks.{RankView, Sight, sight, IsLocalAt, local_from, HasFinished, HasLocal, WillBegin, Agrees, IsAt, IsTurn, IsOfferedSome, TookTurn}
 use Rattle.bf_rank.specs.Steps.{holding, viewed, local_kept, kept, turn_to, MayStep, HasMoved, HasStepped, TakesNext, ComesTo, Begins, HasPassed, IsBeginning, Gives}
 use Rattle.bf_rank.proofs.AgreeLemmas.{agrees_settled}
-use Rattle.bf_rank.proofs.DecidedLemmas.{any_last, unleaving, arrival_more}
+use Rattle.bf_rank.proofs.DecidedLemmas.{any_last, arrival_more}
 use Rattle.bf_rank.proofs.ArriveLemmas.{done_filled, done_parcel, arrives_done, arrives_with_parcel, waiting_offers_nothing, arrived_offers_nothing}
 use Rattle.bf_rank.proofs.TurnLemmas.{MaySend, may_send}
 
@@ -101,8 +102,8 @@ module _ {S L M T R B U : Type 0} (m : Meanings S L M T R) (regions : Regions S 
     first = here.first;
     its = ap (λ e. local_at m setup e now.start rank round) epochs ∙ ap (λ s. local_at m setup seen.epoch s rank round) starts ∙ here.its;
     here = here.here
-        ∙ ap (λ e. local_in_round m good setup (record seen { epoch = e }) rank (Rounds round sent received peers) here.first) (sym epochs)
-        ∙ ap (λ s. local_in_round m good setup (record seen { epoch = now.epoch; start = s }) rank (Rounds round sent received peers) here.first) (sym starts);
+        ∙ ap (λ e. local_from m good setup (record seen { epoch = e }) rank (Rounds round sent received peers) here.first) (sym epochs)
+        ∙ ap (λ s. local_from m good setup (record seen { epoch = now.epoch; start = s }) rank (Rounds round sent received peers) here.first) (sym starts);
   }
   same_here Past local seen now rank epochs starts here = record {
     first = here.first;
@@ -188,7 +189,7 @@ module _ {S L M T R B U : Type 0} (m : Meanings S L M T R) (regions : Regions S 
     opened = opened;
     at = moved_at new event view ranked more offered.its
         (let P : ℕ → Type 0 = λ r. is_leaving (stage (run_happened m setup run event).core r) ≡ false in
-        subst P offered.its (unleaving run.core event (place run view.rank) (will_be_filled m setup run (actor event)) offered.legal))
+        subst P offered.its (none_leaves run.core event (place run view.rank) (will_be_filled m setup run (actor event)) offered.legal))
         agrees;
   }
 

@@ -7,21 +7,16 @@ use Rattle.std.proofs.lemmas.List.Folds.{list_any-append}
 use Rattle.bf_program.specs.declared.epoch.Epoch.{Epoch}
 use Rattle.bf_program.specs.Meanings.{Meanings}
 use Rattle.bf_core.specs.declared.event.Event.{Event}
-use Rattle.bf_core.specs.declared.event.Event.TheVariants.{Send, Recv, Arrive, Leave, Die}
-use Rattle.bf_core.specs.declared.event.How.TheVariants.{Done, Broken, Memory}
-use Rattle.bf_core.specs.declared.place.Place.{Place}
 use Rattle.bf_core.specs.declared.standing.Stage.{Stage}
 use Rattle.bf_core.specs.declared.standing.Stage.TheVariants.{Running, Arrived, Leaving, Ended, Dead, Gone}
 use Rattle.bf_core.specs.Stages.{is_leaving, is_awaited, goes_on, after_decision}
-use Rattle.bf_core.specs.Places.{is_just, next_receive}
-use Rattle.bf_core.specs.States.{State, stage, is_active}
-use Rattle.bf_core.specs.Legal.{actor, is_legal, waits}
+use Rattle.bf_core.specs.States.{State, stage}
+use Rattle.bf_core.specs.Legal.{actor}
 use Rattle.bf_core.specs.Next.{may_decide, happened, is_ripe, decision}
-use Rattle.bf_core.proofs.StageLemmas.{nobody_any, is_rank}
-use Rattle.bf_core.proofs.SoundLemmas.{moved_stage, acting, in_list, leaving_stage}
+use Rattle.bf_core.proofs.StageLemmas.{nobody_any}
 use Rattle.bf_core.proofs.ArrivalLemmas.{decided_stage}
 use Rattle.bf_core.proofs.LawLemmas.{IsStep}
-use Rattle.bf_world.specs.Runs.{Run, place, will_be_filled, run_happened, run_decided, run_settled, opening_run, next_run, run_from, run_after}
+use Rattle.bf_world.specs.Runs.{Run, will_be_filled, run_happened, run_decided, run_settled, opening_run, next_run, run_from, run_after}
 use Rattle.bf_world.specs.Worlds.{brings_decision}
 use Rattle.bf_world.proofs.LawfulLemmas.{decided_core}
 use Rattle.bf_world.proofs.RunLemmas.{run_more}
@@ -33,35 +28,9 @@ use Rattle.bf_rank.specs.Ranks.{RankView, Sight, sight, decided_from, last_decid
 pub any_last : {X : Type 0} (test : X → Bool) (xs : List X) (x : X) → test x ≡ true → list_any test (xs ++ x ∷ []) ≡ true
 any_last test xs x passes = list_any-append test xs (x ∷ []) ∙ or_right (list_any test xs) _ (or_left (test x) false passes)
 
+-- and one that settled it settles it for a longer list
 pub any_more : {X : Type 0} (test : X → Bool) (xs : List X) (x : X) → list_any test xs ≡ true → list_any test (xs ++ x ∷ []) ≡ true
 any_more test xs x passes = list_any-append test xs (x ∷ []) ∙ or_left (list_any test xs) _ passes
-
--- a rank's own event, before any decision, does not make it leave
-pub unleaving : (state : State) (event : Event) (place : Place) (filled : Bool) → is_legal state event place ≡ true
-    → is_leaving (stage (happened state event filled) (actor event)) ≡ false
-unleaving state (Send rank to blocks sum) place filled legal =
-    let runs : stage state rank ≡ Running = acting state rank (and_parts (is_active state rank) _ legal).0 in
-    ap is_leaving ((moved_stage state rank (stage state rank) (in_list state rank runs)).its ∙ runs)
-unleaving state (Recv rank peer) place filled legal =
-    let runs : stage state rank ≡ Running = acting state rank (and_parts (is_active state rank) _ (and_parts (is_active state rank && is_just (next_receive place) peer) _ legal).0).0 in
-    ap is_leaving ((moved_stage state rank (stage state rank) (in_list state rank runs)).its ∙ runs)
-unleaving state (Arrive rank Done) place filled legal =
-    let runs : stage state rank ≡ Running = acting state rank (and_parts (is_active state rank) _ legal).0 in
-    ap is_leaving (moved_stage state rank (Arrived Done filled) (in_list state rank runs)).its
-unleaving state (Arrive rank Broken) place filled legal =
-    let runs : stage state rank ≡ Running = acting state rank (and_parts (is_active state rank) _ (and_parts (is_active state rank && waits state rank place) _ legal).0).0 in
-    ap is_leaving (moved_stage state rank (Arrived Broken false) (in_list state rank runs)).its
-unleaving state (Arrive rank Memory) place filled legal =
-    ap is_leaving (moved_stage state rank (Arrived Memory false) (in_list state rank (acting state rank legal))).its
-unleaving state (Leave rank) place filled legal =
-    let leaving : stage state rank ≡ Leaving = leaving_stage state rank (and_parts (is_leaving (stage state rank)) _ legal).0 in
-    ap is_leaving (moved_stage state rank (if is_some state.outcome then Ended else Running) (is_rank is_leaving state rank refl (ap is_leaving leaving))).its ∙ by_end (is_some state.outcome)
-  where
-    by_end : (b : Bool) → is_leaving (if b then Ended else Running) ≡ false
-    by_end true = refl
-    by_end false = refl
-unleaving state (Die rank) place filled legal =
-    ap is_leaving (moved_stage state rank Dead (is_rank goes_on state rank refl (and_parts (goes_on (stage state rank)) _ legal).0)).its
 
 module _ {S L M T R : Type 0} (m : Meanings S L M T R) (setup : S) where
   decided_from_more : (run : Run L T) (journal : List Event) (event : Event) (before : Run L T) → decided_from m setup run (journal ++ event ∷ []) before

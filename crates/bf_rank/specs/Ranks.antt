@@ -1,9 +1,9 @@
 -- What a rank holds, as the journal tells it.
-use Rattle.std.specs.Prelude.{◌≡◌, ℕ, ◌<◌, Bool, true, false, cond, nat_lt, IsTrue, ◌⊎◌, ◌==◌, if◌then◌else◌, List, [], ◌∷◌, ◌++◌, length, Option, Some, None}
+use Rattle.std.specs.Prelude.{◌≡◌, ℕ, ◌<◌, Bool, true, false, IsTrue, ◌⊎◌, ◌==◌, if◌then◌else◌, List, [], ◌∷◌, ◌++◌, Option, Some, None}
 use Rattle.std.specs.List.{list_any}
 use Rattle.bf_program.specs.declared.epoch.Epoch.{Epoch}
 use Rattle.bf_program.specs.Meanings.{Meanings}
-use Rattle.bf_program.specs.Lockstep.{local_of, after_sends, after_receives, lockstep}
+use Rattle.bf_program.specs.Lockstep.{local_of}
 use Rattle.bf_program.specs.Points.{IsRestoring}
 use Rattle.bf_core.specs.declared.event.Event.{Event}
 use Rattle.bf_core.specs.declared.event.Event.TheVariants.{Arrive, Die}
@@ -17,7 +17,7 @@ use Rattle.bf_core.specs.declared.standing.Stage.TheVariants.{Running, Arrived, 
 use Rattle.bf_core.specs.Stages.{is_leaving, goes_on}
 use Rattle.bf_core.specs.States.{stage}
 use Rattle.bf_core.specs.Legal.{actor, is_memory, IsOffered}
-use Rattle.bf_world.specs.Course.{local_at, first_place}
+use Rattle.bf_world.specs.Course.{local_at, local_in_round, first_place}
 use Rattle.bf_world.specs.Runs.{Run, place, run_happened, opening_run, next_run, run_after}
 use Rattle.bf_world.specs.Worlds.{brings_decision}
 use Rattle.bf_rank.specs.declared.stand.Stand.{Stand}
@@ -57,12 +57,10 @@ module _ {S L M T R : Type 0} (m : Meanings S L M T R) (setup : S) where
   last_decided journal = decided_from (opening_run m setup) journal (opening_run m setup)
 
 module _ {S L M T R : Type 0} (m : Meanings S L M T R) (good : S → Epoch → ℕ → List L → Type 0) (setup : S) where
-  -- a member's local of the lockstep after so many sends of the round, or after all of them and so many receives
-  abbrev pub local_in_round : Sight L → (rank : ℕ) → Place → L → L
-  local_in_round seen rank (Rounds round sent received peers) first =
-      cond (nat_lt sent (length peers)) (after_sends m setup seen.epoch round first sent)
-      (after_receives m setup seen.epoch round (lockstep m setup seen.epoch seen.start round) rank first received)
-  local_in_round seen rank Past first = first
+  -- a member's local of the lockstep at a place, from that with which the place's round begins
+  abbrev pub local_from : Sight L → (rank : ℕ) → Place → L → L
+  local_from seen rank (Rounds round sent received peers) first = local_in_round m setup seen.epoch seen.start rank round sent received peers first
+  local_from seen rank Past first = first
 
   -- the round at whose beginning the local of a place began
   abbrev pub round_begun : Sight L → Place → ℕ
@@ -73,7 +71,7 @@ module _ {S L M T R : Type 0} (m : Meanings S L M T R) (good : S → Epoch → �
   pub record IsLocalAt (seen : Sight L) (rank : ℕ) (at : Place) (local : L) : Type 0 where
     pub first : L
     pub its : local_at m setup seen.epoch seen.start rank (round_begun seen at) ≡ Some first
-    pub here : local ≡ local_in_round seen rank at first
+    pub here : local ≡ local_from seen rank at first
 
   -- a restore reads of a rank's local what it would read of the local with which the rank began the epoch
   pub record IsSaved (seen : Sight L) (rank : ℕ) (local : L) : Type 0 where

@@ -28,3 +28,4 @@ pub mod DecisionLemmas
 pub mod FateLemmas
 pub mod SnapshotLemmas
 pub mod WantLemmas
+pub mod LeaveLemmas

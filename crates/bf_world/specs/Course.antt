@@ -1,8 +1,9 @@
 -- Where the lockstep of an epoch leads each rank.
-use Rattle.std.specs.Prelude.{ℕ, zero, suc, ◌+◌, ◌-◌, nat_lt, if◌then◌else◌, List, [], ◌∷◌, length, Option, Some, None}
+use Rattle.std.specs.Prelude.{ℕ, zero, suc, ◌+◌, ◌-◌, cond, nat_lt, if◌then◌else◌, List, [], ◌∷◌, length, Option, Some, None}
+use Rattle.std.specs.Option.{option_map}
 use Rattle.bf_program.specs.declared.epoch.Epoch.{Epoch}
 use Rattle.bf_program.specs.Meanings.{Meanings}
-use Rattle.bf_program.specs.Lockstep.{local_of, message, lockstep}
+use Rattle.bf_program.specs.Lockstep.{local_of, after_sends, after_receives, message, lockstep}
 use Rattle.bf_core.specs.declared.place.Place.{Place}
 use Rattle.bf_core.specs.declared.place.Place.TheVariants.{Rounds, Past}
 
@@ -16,6 +17,17 @@ module _ {S L M T R : Type 0} (m : Meanings S L M T R) (setup : S) (epoch : Epoc
   -- a member's local at the beginning of a round
   abbrev pub local_at : (rank round : ℕ) → Option L
   local_at rank round = local_of epoch.members (lockstep m setup epoch start round) rank
+
+  -- a member's local, from that at the beginning of a round, after so many sends, or after all of them and so many receives
+  abbrev pub local_in_round : (rank round sent received : ℕ) (peers : List ℕ) → L → L
+  local_in_round rank round sent received peers first =
+      cond (nat_lt sent (length peers)) (after_sends m setup epoch round first sent)
+      (after_receives m setup epoch round (lockstep m setup epoch start round) rank first received)
+
+  -- a rank's local at a place, if it is a member
+  unfoldable pub local_at_place : (rank : ℕ) → Place → Option L
+  local_at_place rank (Rounds round sent received peers) = option_map (local_in_round rank round sent received peers) (local_at rank round)
+  local_at_place rank Past = local_at rank (m.rounds setup epoch)
 
   abbrev peers_with : (round : ℕ) → Option L → List ℕ
   peers_with round (Some local) = m.peers setup local epoch round
