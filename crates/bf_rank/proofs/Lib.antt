@@ -6,3 +6,4 @@ pub mod PassLemmas
 pub mod AccountLemmas
 pub mod OpenLemmas
 pub mod BeganLemmas
+pub mod OwnLemmas

@@ -1,9 +1,12 @@
 //! Laws of every rank, each the contract of a call that does nothing.
-ghost use Rattle.std.specs.Prelude.{◌≡◌, ◌≢◌, false, IsTrue, List, Some};
+ghost use Rattle.std.specs.Prelude.{◌≡◌, ◌≢◌, false, IsTrue, List, Some, None};
+ghost use Rattle.bf_program.specs.Laws.{times};
 ghost use Rattle.bf_core.specs.declared.event.Event.{Event};
 ghost use Rattle.bf_core.specs.Stages.{is_leaving, is_short, goes_on};
 ghost use Rattle.bf_core.specs.States.{stage};
 ghost use Rattle.bf_world.specs.Runs.{run_after, is_journal};
+ghost use Rattle.bf_world.specs.Worlds.{View, IsView, core_after};
+ghost use Rattle.bf_owners.specs.Owners.{boxes_of, held};
 ghost use Rattle.bf_rank.specs.Ranks.{RankView, IsAt, IsSaved, sight, last_decided};
 ghost use Rattle.bf_rank.specs.declared.stand.Stand.TheVariants.{Failed};
 
@@ -34,3 +37,24 @@ pub fn the_decided_epoch_began_good<P: RankProgram>()
 {
     each_epoch_begins_good::<P>();
 }
+
+/// What a rank has is what it owns: until its epoch is decided, and unless it has found no memory, its local has the pieces
+/// that the rank holds by the journal.
+pub fn a_rank_has_what_it_owns<P: RankProgram>()
+    ensures { (world : View P.Setup P.Msg P.Part) (view : RankView P.Local) (unit : P.Spot) → IsView P.meanings world
+        → IsAt P.meanings P.good world.setup world.journal view
+        → IsTrue (goes_on (stage (core_after P.meanings world.setup world.journal) view.rank))
+        → is_leaving (stage (core_after P.meanings world.setup world.journal) view.rank) ≡ false
+        → is_short (stage (core_after P.meanings world.setup world.journal) view.rank) ≡ false → view.stand ≢ Failed
+        → times P.regions (boxes_of P.regions view.local) unit ≡ times P.regions (held P.meanings P.regions world view.rank) unit }
+{}
+
+/// So it is once a commit has begun an epoch into which the rank must leave. After a restore it holds what the leave will
+/// give it, and once the run has ended nothing: there its local is no piece.
+pub fn a_rank_that_must_leave_after_a_commit_has_what_it_owns<P: RankProgram>()
+    ensures { (world : View P.Setup P.Msg P.Part) (view : RankView P.Local) (unit : P.Spot) → IsView P.meanings world
+        → IsAt P.meanings P.good world.setup world.journal view
+        → IsTrue (is_leaving (stage (core_after P.meanings world.setup world.journal) view.rank))
+        → (core_after P.meanings world.setup world.journal).outcome ≡ None → (core_after P.meanings world.setup world.journal).epoch.restored ≡ false
+        → times P.regions (boxes_of P.regions view.local) unit ≡ times P.regions (held P.meanings P.regions world view.rank) unit }
+{}
