@@ -157,7 +157,7 @@ module _ {S L M T R B U : Type 0} (m : Meanings S L M T R) (regions : Regions S 
       by_local (Some local) its = (laws.pieces.parcel run.core.epoch _ rank local unit good_last its).0
       by_local None none = refl
 
-  left_weighs : (rank : ℕ) → weight_with (local_times m regions unit) (option_map (λ local. (m.parcel local).0) (last_local m setup run rank)) ≡ 0
+  pub left_weighs : (rank : ℕ) → weight_with (local_times m regions unit) (option_map (λ local. (m.parcel local).0) (last_local m setup run rank)) ≡ 0
   left_weighs rank = by_local (last_local m setup run rank) refl
     where
       by_local : (o : Option L) → last_local m setup run rank ≡ o → weight_with (local_times m regions unit) (option_map (λ local. (m.parcel local).0) o) ≡ 0

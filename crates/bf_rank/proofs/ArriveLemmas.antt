@@ -83,6 +83,16 @@ module _ {S L M T R : Type 0} (m : Meanings S L M T R) (good : S → Epoch → �
     here = ap (λ l. (m.parcel l).0) here.here ∙ ap (λ b. if b then (m.parcel here.first).0 else here.first) (sym ends);
   }
 
+module _ {S L M T R : Type 0} (m : Meanings S L M T R) (good : S → Epoch → ℕ → List L → Type 0) (setup : S) (seen : Sight L) (view : RankView L) where
+  -- what a rank has from its arrival on is that with which it has arrived, until it must leave
+  pub arrived_has : (s : Stage) → is_leaving s ≡ false → HasLocal m good setup seen view s → HasArrived m good setup seen view s
+  arrived_has (Arrived how filled) _ has = has
+  arrived_has Leaving leaves has = absurd (cc)
+  arrived_has Running _ has = absurd has
+  arrived_has Ended _ has = absurd has
+  arrived_has Dead _ has = absurd has
+  arrived_has Gone _ has = absurd has
+
 -- the number that there may be
 lacks : (o : Option ℕ) (n : ℕ) → o ≡ None → is_just o n ≡ true → ⊥
 lacks o n none is_just_n = let e : false ≡ true = ap (λ x. is_just x n) (sym none) ∙ is_just_n in cc
@@ -182,12 +192,4 @@ module _ {S L M T R : Type 0} (m : Meanings S L M T R) (good : S → Epoch → �
       (agrees.1.1.1.0, (agrees.1.1.1.1.0, saved_at m good setup saves seen view.rank at agrees.1.1.1.0 agrees.1.1.1.1.1))
   stand_saves stands.Failed goes stays fits unfailed agrees = absurd (unfailed refl)
   stand_saves stands.Ended goes stays fits unfailed agrees = absurd (both_ways (goes_on seen.stage) agrees goes)
-  stand_saves stands.Arrived goes stays fits unfailed agrees = by_stage seen.stage stays fits agrees
-    where
-      by_stage : (s : Stage) → is_leaving s ≡ false → is_short s ≡ false → HasLocal m good setup seen view s → HasSaved
-      by_stage (Arrived how filled) _ fit has = arrived_saves (Arrived how filled) fit has
-      by_stage Leaving leaves fit has = absurd (cc)
-      by_stage Running _ fit has = absurd has
-      by_stage Ended _ fit has = absurd has
-      by_stage Dead _ fit has = absurd has
-      by_stage Gone _ fit has = absurd has
+  stand_saves stands.Arrived goes stays fits unfailed agrees = arrived_saves seen.stage fits (arrived_has m good setup seen view seen.stage stays agrees)

@@ -1,8 +1,8 @@
 -- What a rank has is what it owns by the journal.
 use Rattle.std.proofs.Common.{◌≡◌, ◌≢◌, ℕ, ◌<◌, true, false, List, refl, sym, subst, ◌∙◌, ap}
-use Rattle.std.specs.Prelude.{Option, Some, None, is_some, if◌then◌else◌}
+use Rattle.std.specs.Prelude.{◌==◌, Option, Some, None, is_some, if◌then◌else◌}
 use Rattle.std.specs.Option.{option_map}
-use Rattle.std.proofs.lemmas.Bool.{both_ways}
+use Rattle.std.proofs.lemmas.Bool.{eq-eqb, both_ways}
 use Rattle.bf_buddy.specs.Members.{is_member}
 use Rattle.bf_program.specs.declared.epoch.Epoch.{Epoch}
 use Rattle.bf_program.specs.Meanings.{Meanings, Regions}
@@ -10,12 +10,14 @@ use Rattle.bf_program.specs.Laws.{Laws, times}
 use Rattle.bf_program.specs.Lockstep.{local_of}
 use Rattle.bf_core.specs.declared.event.How.TheVariants.{Done, Broken, Memory}
 use Rattle.bf_core.specs.declared.outcome.Outcome.{Outcome}
+use Rattle.bf_core.specs.declared.outcome.Outcome.TheVariants.{Finished}
 use Rattle.bf_core.specs.declared.place.Place.{Place}
 use Rattle.bf_core.specs.declared.place.Place.TheVariants.{Rounds, Past}
 use Rattle.bf_core.specs.declared.standing.Stage.{Stage}
 use Rattle.bf_core.specs.declared.standing.Stage.TheVariants.{Running, Arrived, Leaving, Ended, Dead, Gone}
 use Rattle.bf_core.specs.Stages.{is_leaving, is_short, goes_on}
 use Rattle.bf_core.specs.States.{stage}
+use Rattle.bf_core.proofs.SoundLemmas.{leaving_stage}
 use Rattle.bf_world.specs.Course.{local_in_round, local_at_place}
 use Rattle.bf_world.specs.Runs.{Run, place, run_after}
 use Rattle.bf_world.specs.Worlds.{View, IsView}
@@ -24,10 +26,11 @@ use Rattle.bf_world.proofs.ResultLemmas.{after_result}
 use Rattle.bf_owners.specs.Owners.{local_left, local_by, boxes_of, held}
 use Rattle.bf_owners.proofs.KeptLemmas.{after_kept, register}
 use Rattle.bf_owners.proofs.LedgerLemmas.{weight_with}
-use Rattle.bf_owners.proofs.OwnerLemmas.{local_times, boxes_weigh, held_weighs, begins_with}
+use Rattle.bf_owners.proofs.OwnerLemmas.{local_times, boxes_weigh, held_weighs, left_weighs, begins_with}
 use Rattle.bf_rank.specs.declared.stand.Stand.{Stand}
 use Rattle.bf_rank.specs.declared.stand.Stand.TheVariants as stands
-use Rattle.bf_rank.specs.Ranks.{RankView, sight, IsLocalAt, HasLocal, WillBegin, HasArrived, Agrees, IsAt}
+use Rattle.bf_rank.proofs.ArriveLemmas.{arrived_has}
+use Rattle.bf_rank.specs.Ranks.{RankView, sight, IsLocalAt, HasFinished, HasLocal, WillBegin, HasArrived, Agrees, IsAt}
 
 module _ {S L M T R : Type 0} (m : Meanings S L M T R) (good : S → Epoch → ℕ → List L → Type 0) (setup : S) (run : Run L T) (rank : ℕ) where
   -- where a rank's local is the lockstep's, the lockstep's is that
@@ -37,6 +40,16 @@ module _ {S L M T R : Type 0} (m : Meanings S L M T R) (good : S → Epoch → �
   local_of_place Past local here = here.its ∙ ap Some (sym here.here)
   local_of_place (Rounds round sent received peers) local here =
       ap (option_map (local_in_round m setup run.core.epoch run.start rank round sent received peers)) here.its ∙ ap Some (sym here.here)
+
+module _ {S L M T R : Type 0} (m : Meanings S L M T R) (good : S → Epoch → ℕ → List L → Type 0) (setup : S) (run : Run L T) (view : RankView L) where
+  -- what the account of a rank says that must leave
+  leaving_local : (stand : Stand) → stage run.core view.rank ≡ Leaving → Agrees m good setup (sight run view.rank) view stand
+      → HasLocal m good setup (sight run view.rank) view Leaving
+  leaving_local stands.Opening leaves agrees = absurd (let both : Leaving ≡ Running = sym leaves ∙ agrees.0 in cc)
+  leaving_local (stands.Placed at) leaves agrees = absurd (let both : Leaving ≡ Running = sym leaves ∙ agrees.0 in cc)
+  leaving_local stands.Failed leaves agrees = absurd (let both : Leaving ≡ Running = sym leaves ∙ agrees.0 in cc)
+  leaving_local stands.Ended leaves agrees = absurd (let both : true ≡ false = sym (ap goes_on leaves) ∙ agrees in cc)
+  leaving_local stands.Arrived leaves agrees = let P : Stage → Type 0 = HasLocal m good setup (sight run view.rank) view in subst P leaves agrees
 
 module _ {S L M T R B U : Type 0} (m : Meanings S L M T R) (regions : Regions S L M T R B U) (good : S → Epoch → ℕ → List L → Type 0) (setup : S)
     (laws : Laws m regions good setup) (unit : U) (run : Run L T) (lawful : IsLawful m good setup laws.goods laws.stores run) (view : RankView L) where
@@ -72,47 +85,22 @@ module _ {S L M T R B U : Type 0} (m : Meanings S L M T R) (regions : Regions S 
       ∙ local_of_place m good setup run view.rank at agrees.1.1.1.0 agrees.1.1.1.1.1)))
   stand_holds stands.Failed below goes stays fits unfailed agrees = absurd (unfailed refl)
   stand_holds stands.Ended below goes stays fits unfailed agrees = absurd (both_ways (goes_on (stage run.core view.rank)) agrees goes)
-  stand_holds stands.Arrived below goes stays fits unfailed agrees = by_stage (stage run.core view.rank) stays fits agrees
-    where
-      by_stage : (s : Stage) → is_leaving s ≡ false → is_short s ≡ false → HasLocal m good setup (sight run view.rank) view s → HoldsTold s
-      by_stage (Arrived how filled) _ fit has = arrived_holds (Arrived how filled) fit has
-      by_stage Leaving leaves fit has = absurd (cc)
-      by_stage Running _ fit has = absurd has
-      by_stage Ended _ fit has = absurd has
-      by_stage Dead _ fit has = absurd has
-      by_stage Gone _ fit has = absurd has
+  stand_holds stands.Arrived below goes stays fits unfailed agrees =
+      arrived_holds (stage run.core view.rank) fits (arrived_has m good setup (sight run view.rank) view (stage run.core view.rank) stays agrees)
 
   -- who must leave into an epoch that a commit began has a local with the pieces of that with which it begins
-  leaving_holds : (stand : Stand) → is_leaving (stage run.core view.rank) ≡ true → run.core.outcome ≡ None → run.core.epoch.restored ≡ false
+  leaving_holds : (stand : Stand) → stage run.core view.rank ≡ Leaving → run.core.outcome ≡ None → run.core.epoch.restored ≡ false
       → Agrees m good setup (sight run view.rank) view stand → HoldsTold (stage run.core view.rank)
-  leaving_holds stands.Opening leaves none commits agrees = absurd (let both : true ≡ false = sym leaves ∙ ap is_leaving agrees.0 in cc)
-  leaving_holds (stands.Placed at) leaves none commits agrees = absurd (let both : true ≡ false = sym leaves ∙ ap is_leaving agrees.0 in cc)
-  leaving_holds stands.Failed leaves none commits agrees = absurd (let both : true ≡ false = sym leaves ∙ ap is_leaving agrees.0 in cc)
-  leaving_holds stands.Ended leaves none commits agrees = by_stage (stage run.core view.rank) leaves agrees
-    where
-      by_stage : (s : Stage) → is_leaving s ≡ true → goes_on s ≡ false → HoldsTold s
-      by_stage Leaving _ ends = absurd (cc)
-      by_stage (Arrived how filled) left _ = absurd (cc)
-      by_stage Running left _ = absurd (cc)
-      by_stage Ended left _ = absurd (cc)
-      by_stage Dead left _ = absurd (cc)
-      by_stage Gone left _ = absurd (cc)
-  leaving_holds stands.Arrived leaves none commits agrees = by_stage (stage run.core view.rank) leaves agrees
-    where
-      by_stage : (s : Stage) → is_leaving s ≡ true → HasLocal m good setup (sight run view.rank) view s → HoldsTold s
-      by_stage Leaving _ has =
-          let mine = (has.0 none).1 in
-          let will : local_of run.core.epoch.members run.start view.rank ≡ Some (m.keep mine.0) =
-          subst (λ b. WillBegin m good setup b (sight run view.rank) view.rank mine.0) commits mine.1.1 in
-          ap (weight_with (local_times m regions unit)) mine.1.0
-          ∙ sym (laws.pieces.keep mine.0 unit)
-          ∙ sym (ap (λ (o : Option Outcome). weight_with (local_times m regions unit) (if is_some o then None else local_of run.core.epoch.members run.start view.rank)) none
-          ∙ ap (weight_with (local_times m regions unit)) will)
-      by_stage (Arrived how filled) left has = absurd (cc)
-      by_stage Running left has = absurd (cc)
-      by_stage Ended left has = absurd (cc)
-      by_stage Dead left has = absurd (cc)
-      by_stage Gone left has = absurd (cc)
+  leaving_holds stand leaves none commits agrees =
+      let mine : (local : L) × ((view.local ≡ Some local) × WillBegin m good setup run.core.epoch.restored (sight run view.rank) view.rank local) =
+      ((leaving_local m good setup run view stand leaves agrees).0 none).1 in
+      let will : local_of run.core.epoch.members run.start view.rank ≡ Some (m.keep mine.0) =
+      subst (λ b. WillBegin m good setup b (sight run view.rank) view.rank mine.0) commits mine.1.1 in
+      subst HoldsTold (sym leaves)
+      (ap (weight_with (local_times m regions unit)) mine.1.0
+      ∙ sym (laws.pieces.keep mine.0 unit)
+      ∙ sym (ap (λ (o : Option Outcome). weight_with (local_times m regions unit) (if is_some o then None else local_of run.core.epoch.members run.start view.rank)) none
+      ∙ ap (weight_with (local_times m regions unit)) will))
 
 module _ {S L M T R B U : Type 0} (m : Meanings S L M T R) (regions : Regions S L M T R B U) (good : S → Epoch → ℕ → List L → Type 0) (world : View S M T)
     (laws : Laws m regions good world.setup) (seen : IsView m world) (view : RankView L) (at : IsAt m good world.setup world.journal view) (unit : U) where
@@ -140,4 +128,19 @@ module _ {S L M T R B U : Type 0} (m : Meanings S L M T R) (regions : Regions S 
       goes stays fits unfailed at.agrees)
 
   pub leaving_has_own : is_leaving (stage told.core view.rank) ≡ true → told.core.outcome ≡ None → told.core.epoch.restored ≡ false → HasOwn
-  leaving_has_own leaves none commits = own (leaving_holds m regions good world.setup laws unit told lawful view view.stand leaves none commits at.agrees)
+  leaving_has_own leaves none commits =
+      own (leaving_holds m regions good world.setup laws unit told lawful view view.stand (leaving_stage told.core view.rank leaves) none commits at.agrees)
+
+  -- who must leave a finished run has given all that it had
+  pub finished_has_nothing : is_leaving (stage told.core view.rank) ≡ true → told.core.outcome ≡ Some Finished → times regions (boxes_of regions view.local) unit ≡ 0
+  finished_has_nothing leaves ends =
+      let mine : (local : L) × ((view.local ≡ Some local) × HasFinished m good world.setup (sight told view.rank) view.rank local) =
+      (leaving_local m good world.setup told view view.stand (leaving_stage told.core view.rank leaves) at.agrees).1 ends in
+      let last : (told.core.epoch.target == told.core.steps) ≡ true =
+      eq-eqb told.core.epoch.target told.core.steps
+      ((after_result m good world.setup laws.goods laws.stores laws.limits world.journal seen.legal).at_end ends) in
+      boxes_weigh m regions unit view.local
+      ∙ ap (weight_with (local_times m regions unit))
+      (mine.1.0 ∙ ap Some (mine.1.1.here ∙ ap (λ b. if b then (m.parcel mine.1.1.last).0 else mine.1.1.last) last)
+      ∙ sym (ap (option_map (λ local. (m.parcel local).0)) mine.1.1.its))
+      ∙ left_weighs m regions good world.setup laws unit told lawful view.rank

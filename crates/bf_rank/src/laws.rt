@@ -2,6 +2,7 @@
 ghost use Rattle.std.specs.Prelude.{◌≡◌, ◌≢◌, false, IsTrue, List, Some, None};
 ghost use Rattle.bf_program.specs.Laws.{times};
 ghost use Rattle.bf_core.specs.declared.event.Event.{Event};
+ghost use Rattle.bf_core.specs.declared.outcome.Outcome.TheVariants.{Finished};
 ghost use Rattle.bf_core.specs.Stages.{is_leaving, is_short, goes_on};
 ghost use Rattle.bf_core.specs.States.{stage};
 ghost use Rattle.bf_world.specs.Runs.{run_after, is_journal};
@@ -39,7 +40,8 @@ pub fn the_decided_epoch_began_good<P: RankProgram>()
 }
 
 /// What a rank has is what it owns: until its epoch is decided, and unless it has found no memory, its local has the pieces
-/// that the rank holds by the journal.
+/// of the local that the journal tells. A rank at its opening has yet to finish first rounds without peers, which the journal
+/// counts as passed: then the two locals may differ, and their pieces agree.
 pub fn a_rank_has_what_it_owns<P: RankProgram>()
     ensures { (world : View P.Setup P.Msg P.Part) (view : RankView P.Local) (unit : P.Spot) → IsView P.meanings world
         → IsAt P.meanings P.good world.setup world.journal view
@@ -49,12 +51,22 @@ pub fn a_rank_has_what_it_owns<P: RankProgram>()
         → times P.regions (boxes_of P.regions view.local) unit ≡ times P.regions (held P.meanings P.regions world view.rank) unit }
 {}
 
-/// So it is once a commit has begun an epoch into which the rank must leave. After a restore it holds what the leave will
+/// So it is with a rank that must leave into an epoch that a commit began. After a restore such a rank owns what its leave will
 /// give it, and once the run has ended nothing: there its local is no piece.
 pub fn a_rank_that_must_leave_after_a_commit_has_what_it_owns<P: RankProgram>()
     ensures { (world : View P.Setup P.Msg P.Part) (view : RankView P.Local) (unit : P.Spot) → IsView P.meanings world
         → IsAt P.meanings P.good world.setup world.journal view
         → IsTrue (is_leaving (stage (core_after P.meanings world.setup world.journal) view.rank))
-        → (core_after P.meanings world.setup world.journal).outcome ≡ None → (core_after P.meanings world.setup world.journal).epoch.restored ≡ false
+        → (core_after P.meanings world.setup world.journal).outcome ≡ None
+        → (core_after P.meanings world.setup world.journal).epoch.restored ≡ false
         → times P.regions (boxes_of P.regions view.local) unit ≡ times P.regions (held P.meanings P.regions world view.rank) unit }
+{}
+
+/// What a rank has left that must leave a finished run holds no unit: its parcel has all.
+pub fn a_rank_that_must_leave_a_finished_run_has_no_piece<P: RankProgram>()
+    ensures { (world : View P.Setup P.Msg P.Part) (view : RankView P.Local) (unit : P.Spot) → IsView P.meanings world
+        → IsAt P.meanings P.good world.setup world.journal view
+        → IsTrue (is_leaving (stage (core_after P.meanings world.setup world.journal) view.rank))
+        → (core_after P.meanings world.setup world.journal).outcome ≡ Some Finished
+        → times P.regions (boxes_of P.regions view.local) unit ≡ 0 }
 {}
