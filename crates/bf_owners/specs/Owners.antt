@@ -25,8 +25,9 @@ module _ {S L M T R : Type 0} (m : Meanings S L M T R) (setup : S) (run : Run L 
   abbrev pub local_left : L → L
   local_left last = if run.core.epoch.target == run.core.steps then (m.parcel last).0 else last
 
-  -- the local that a rank has, by its stage: who must leave has that with which it begins the epoch, or none where the run has
-  -- ended, and who has arrived for want of memory has none
+  -- the local whose pieces a rank owns, by its stage: who must leave has that with which it begins the epoch, or none where the run
+  -- has ended, and who has arrived for want of memory has none; who has failed for want of memory and has not arrived yet is counted
+  -- with the lockstep's local, though it has none
   abbrev pub local_by : (rank : ℕ) → Stage → Option L
   local_by rank Running = local_here rank
   local_by rank (Arrived Done filled) = option_map local_left (last_local m setup run rank)
@@ -43,7 +44,7 @@ boxes_of regions (Some local) = regions.of_local local
 boxes_of regions None = []
 
 module _ {S L M T R B U : Type 0} (m : Meanings S L M T R) (regions : Regions S L M T R B U) (view : View S M T) where
-  -- the boxes of the local that a rank has
+  -- the boxes of the local whose pieces a rank owns
   unfoldable pub held : (rank : ℕ) → List B
   held rank =
       let run = run_after m view.setup view.journal in
