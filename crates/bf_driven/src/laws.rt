@@ -22,7 +22,7 @@ ghost use Rattle.bf_forest.specs.Setup.{case_of};
 ghost use Rattle.bf_forest.specs.Leaves.{AreLeaves, bare_blocks};
 ghost use Rattle.bf_forest.specs.Meanings.{forest, pieces};
 ghost use Rattle.bf_rank.specs.Ranks.{last_decided};
-ghost use Rattle.bf_driven.specs.Held.{IsHeld, IsHolder, MustLeave, HadMemory, agreed_side};
+ghost use Rattle.bf_driven.specs.Held.{AllHold, AllHoldUntilCommit, MustLeave, HadMemory};
 ghost use Rattle.bf_driven.specs.Losses.{EndsByDeaths};
 ghost use Rattle.bf_driven.specs.Parcels.{blocks_of};
 
@@ -70,18 +70,16 @@ pub fn each_epoch_begins_with_the_agreed_map()
 
 /// While a run goes on, each rank that does, and hasn't wanted memory, has its parts of the agreed snapshot: its own, and a copy of
 /// that of the home whose buddy it is. Where a commit agreed on it and the rank hasn't left yet, they are on its spare side; else on
-/// the active one [agreed]. Once the run has finished, they are on the spare side until the rank leaves [finished]. Until a rank leaves an
-/// epoch that was decided, its active side has its parts of the snapshot that was agreed before [before]. All ranks have them by the same
-/// homes of the leaves.
+/// the active one. No event changes these parts until the next commit: all ranks have them by the same homes of the leaves, whatever
+/// events come, restores too [agreed]. Once the run has finished, they are on the spare side until the rank leaves [finished]. Until a
+/// rank leaves an epoch that was decided, its active side has its parts of the snapshot that was agreed before [before].
 pub fn each_rank_holds_its_parts_of_the_agreed_snapshot()
-    ensures agreed { (setup : Setup) (journal : List Event) → IsTrue (is_journal forest setup journal) → (core_after forest setup journal).outcome ≡ None
-        → IsHeld (case_of setup) (core_after forest setup journal).epoch.time (core_after forest setup journal).epoch.homes
-        (agreed_side (core_after forest setup journal)) (IsHolder setup journal) }
+    ensures agreed { (setup : Setup) (journal : List Event) → IsTrue (is_journal forest setup journal) → AllHoldUntilCommit setup journal }
     ensures finished { (setup : Setup) (journal : List Event) → IsTrue (is_journal forest setup journal) → (core_after forest setup journal).outcome ≡ Some Finished
-        → IsHeld (case_of setup) (core_after forest setup journal).epoch.target (core_after forest setup journal).epoch.members
+        → AllHold (case_of setup) (core_after forest setup journal).epoch.target (core_after forest setup journal).epoch.members
         (λ rank buffers. buffers.spare) (MustLeave setup journal) }
     ensures before { (setup : Setup) (journal : List Event) → IsTrue (is_journal forest setup journal)
-        → IsHeld (case_of setup) (last_decided forest setup journal).core.epoch.time (last_decided forest setup journal).core.epoch.homes
+        → AllHold (case_of setup) (last_decided forest setup journal).core.epoch.time (last_decided forest setup journal).core.epoch.homes
         (λ rank buffers. buffers.active) (HadMemory setup journal) }
 {
     each_epoch_begins_good::<Forest>();
