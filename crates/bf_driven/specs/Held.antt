@@ -60,12 +60,14 @@ module _ (setup : Setup) (journal : List Event) where
     pub must : MustLeave view
     pub enough : is_short (stage (last_decided forest setup journal).core view.rank) ≡ false
 
--- each leaf of the agreed map has its home, and by that each rank that goes on has its parts, the same whatever comes later: until
--- an event brings a commit, or the run ends
+-- each leaf of the agreed map has its home, and each rank that goes on has its parts by that, as one side that stays the same
+-- whatever comes later, until an event brings a commit or the run ends
 pub record AllHoldUntilCommit (setup : Setup) (journal : List Event) : Type 0 where
   pub home : BlockId → ℕ
   pub among : AreAmong (core_after forest setup journal).epoch.homes (blocks_at (case_of setup) (core_after forest setup journal).epoch.time) home
+  pub side_of : (rank : ℕ) → Side LinkedBlock
   pub parts : (later : List Event) → commits_in setup (run_after forest setup journal) later ≡ false
       → (core_after forest setup (journal ++ later)).outcome ≡ None → (view : RankView ForestLocal) → IsHolder setup (journal ++ later) view
-      → HoldsParts (case_of setup) (core_after forest setup journal).epoch.time (core_after forest setup journal).epoch.homes home
-      (agreed_side (core_after forest setup (journal ++ later)) view.rank) view
+      → (has : HoldsParts (case_of setup) (core_after forest setup journal).epoch.time (core_after forest setup journal).epoch.homes home
+      (agreed_side (core_after forest setup (journal ++ later)) view.rank) view)
+      × (agreed_side (core_after forest setup (journal ++ later)) view.rank has.local.buffers ≡ side_of view.rank)

@@ -70,9 +70,9 @@ pub fn each_epoch_begins_with_the_agreed_map()
 
 /// While a run goes on, each rank that does, and hasn't wanted memory, has its parts of the agreed snapshot: its own, and a copy of
 /// that of the home whose buddy it is. Where a commit agreed on it and the rank hasn't left yet, they are on its spare side; else on
-/// the active one. No event changes these parts until the next commit: all ranks have them by the same homes of the leaves, whatever
-/// events come, restores too [agreed]. Once the run has finished, they are on the spare side until the rank leaves [finished]. Until a
-/// rank leaves an epoch that was decided, its active side has its parts of the snapshot that was agreed before [before].
+/// the active one. Until the next commit no event changes these parts, a restore neither [agreed]. Once the run has finished, they are
+/// on the spare side until the rank leaves [finished]. Until a rank leaves an epoch that was decided, its active side has its parts of the
+/// snapshot that was agreed before [before]. All ranks have them by the same homes of the leaves.
 pub fn each_rank_holds_its_parts_of_the_agreed_snapshot()
     ensures agreed { (setup : Setup) (journal : List Event) → IsTrue (is_journal forest setup journal) → AllHoldUntilCommit setup journal }
     ensures finished { (setup : Setup) (journal : List Event) → IsTrue (is_journal forest setup journal) → (core_after forest setup journal).outcome ≡ Some Finished

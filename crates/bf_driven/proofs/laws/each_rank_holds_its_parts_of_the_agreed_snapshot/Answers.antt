@@ -3,9 +3,11 @@ use Rattle.bf_core.specs.Stages.{is_leaving}
 use Rattle.bf_core.specs.States.{stage}
 use Rattle.bf_forest.specs.Goods.{HasParts}
 use Rattle.bf_forest.specs.Meanings.{forest}
+use Rattle.bf_forest.specs.ModelBlocks.{blocks_at}
 use Rattle.bf_forest.specs.Setup.{case_of}
 use Rattle.bf_forest.specs.LeafLaws.{all_dealt}
 use Rattle.bf_forest.specs.Stages.{forest_plan}
+use Rattle.bf_parts.specs.Leaves.{side_at}
 use Rattle.bf_rank.specs.Ranks.{sight, last_decided}
 use Rattle.bf_stages.specs.Plans.{rounds_of}
 use Rattle.bf_world.specs.Runs.{run_after, last_locals}
@@ -22,6 +24,7 @@ returns c = record {
       record {
         home = has.1;
         among = has.2.housed;
+        side_of = side_at time homes (case_of setup).shift (blocks_at (case_of setup) time) has.1;
         parts = λ later quiet goes view holder.
             let after = run_after forest setup (journal ++ later) in
             held_by setup time homes has.1 after
@@ -51,7 +54,7 @@ returns c = record {
               local = kept.0;
               its = kept.1.0;
               parts = subst (HasParts (case_of setup) run.core.epoch.time run.core.epoch.homes has.1 view.rank) (sym kept.1.1.same)
-                  (its_agreed setup run.core.epoch 0 has.0 has.1 run.start view.rank kept.1.1.first has.2 kept.1.1.its);
+                  (its_agreed setup run.core.epoch 0 has.0 has.1 run.start view.rank kept.1.1.first has.2 kept.1.1.its).0;
             };
       };
 }
