@@ -40,8 +40,8 @@ pub fn the_decided_epoch_began_good<P: RankProgram>()
 }
 
 /// What a rank has is what it owns: until its epoch is decided, and unless it has found no memory, its local has the pieces
-/// of the local that the journal tells. A rank at its opening has yet to finish first rounds without peers, which the journal
-/// counts as passed: then the two locals may differ, and their pieces agree.
+/// of the local that the journal tells. Before its first event a rank has not passed first rounds without peers, which the
+/// journal counts as passed: there the two locals may differ, and their pieces agree.
 pub fn a_rank_has_what_it_owns<P: RankProgram>()
     ensures { (world : View P.Setup P.Msg P.Part) (view : RankView P.Local) (unit : P.Spot) → IsView P.meanings world
         → IsAt P.meanings P.good world.setup world.journal view
