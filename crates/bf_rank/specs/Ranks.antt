@@ -52,7 +52,7 @@ module _ {S L M T R : Type 0} (m : Meanings S L M T R) (setup : S) where
   decided_from run (event ∷ events) before =
       decided_from (next_run m setup run event) events (if brings_decision m setup run event then run_happened m setup run event else before)
 
-  -- the run as the last decision of a journal found it: each live member had arrived
+  -- the run as the last decision of a journal found it, each live member having arrived; the opening, where nothing is decided
   unfoldable pub last_decided : List Event → Run L T
   last_decided journal = decided_from (opening_run m setup) journal (opening_run m setup)
 
