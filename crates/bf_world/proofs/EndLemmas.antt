@@ -1,5 +1,5 @@
 -- How runs end.
-use Rattle.std.proofs.Common.{◌≡◌, ℕ, zero, suc, ◌<◌, Bool, true, false, ◌&&◌, ◌||◌, not, List, [], ◌∷◌, map, length, replicate, arith, refl, sym, subst, ◌∙◌, ap, inl, inr}
+use Rattle.std.proofs.Common.{◌≡◌, ℕ, zero, suc, ◌<◌, Bool, true, false, ◌&&◌, ◌||◌, List, [], ◌∷◌, map, length, replicate, arith, refl, sym, subst, ◌∙◌, ap, inl, inr}
 use Rattle.std.specs.Prelude.{◌⊎◌, Option, Some, None, is_some, if◌then◌else◌}
 use Rattle.std.specs.List.{list_any}
 use Rattle.std.proofs.lemmas.Bool.{cases_eq, not-true, or_right, or_left, and_parts}
@@ -15,7 +15,7 @@ use Rattle.bf_core.specs.declared.outcome.Outcome.TheVariants as outcomes
 use Rattle.bf_core.specs.declared.place.Place.{Place}
 use Rattle.bf_core.specs.declared.standing.Stage.{Stage}
 use Rattle.bf_core.specs.declared.standing.Stage.TheVariants.{Running, Arrived, Leaving, Ended, Dead, Gone}
-use Rattle.bf_core.specs.Stages.{is_leaving, is_short, goes_on, lives, after_decision}
+use Rattle.bf_core.specs.Stages.{is_leaving, is_short, goes_on, lives}
 use Rattle.bf_core.specs.Places.{is_just, next_receive}
 use Rattle.bf_core.specs.States.{State, stage, is_active, is_short_of_memory, is_finished, opening}
 use Rattle.bf_core.specs.Legal.{actor, is_legal, waits, is_memory}

@@ -9,7 +9,7 @@ use Rattle.bf_core.specs.declared.event.Event.{Event}
 use Rattle.bf_core.specs.declared.event.Event.TheVariants.{Send, Recv, Arrive, Leave, Die}
 use Rattle.bf_core.specs.declared.event.How.TheVariants.{Done, Broken, Memory}
 use Rattle.bf_core.specs.declared.place.Place.{Place}
-use Rattle.bf_core.specs.declared.place.Place.TheVariants.{Rounds, Past}
+use Rattle.bf_core.specs.declared.place.Place.TheVariants.{Past}
 use Rattle.bf_core.specs.Places.{round_of}
 use Rattle.bf_core.specs.Stages.{is_arrived, lives}
 use Rattle.bf_core.specs.States.{State, stage, opening}
