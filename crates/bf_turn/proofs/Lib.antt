@@ -1,0 +1,4 @@
+pub mod Places
+pub mod PartyLemmas
+pub mod LogLemmas
+pub mod OrderLemmas
