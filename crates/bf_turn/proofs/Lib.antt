@@ -2,3 +2,4 @@ pub mod Places
 pub mod PartyLemmas
 pub mod LogLemmas
 pub mod OrderLemmas
+pub mod DiaryLemmas

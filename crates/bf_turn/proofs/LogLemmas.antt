@@ -138,16 +138,11 @@ module _ {E : Type 0} (party_of : E → ℕ) where
               let count : length (x ∷ entries_of party_of p xs) ≡ 0 = ap length first in
               omega (arith, count)
 
-  -- a log that is as it was seen, and one that has one more entry
-  pub goes_on_nowhere : (parties : List ℕ) (log : List E) → GoesOn party_of parties log log
-  goes_on_nowhere parties log = (
-    starts_all log,
-    All-same (λ entry. Contains parties (party_of entry)) (after log log) [] (front_rest log log [] (sym (append-nil log))) (All-nil (λ entry. Contains parties (party_of entry))),
-  )
-
-  pub goes_on_by_one : (parties : List ℕ) (seen log : List E) (entry : E) → log ≡ seen ++ entry ∷ [] → Contains parties (party_of entry)
-      → GoesOn party_of parties seen log × (after seen log ≡ entry ∷ [])
-  goes_on_by_one parties seen log entry is has =
+  -- a log that is as it was seen, or has one more entry
+  pub goes_on : (parties : List ℕ) (seen log : List E) (entry : E) → Contains parties (party_of entry)
+      → (more : Bool) → log ≡ (if more then seen ++ entry ∷ [] else seen)
+      → GoesOn party_of parties seen log × (after seen log ≡ (if more then entry ∷ [] else []))
+  goes_on parties seen log entry has true is =
       let one : after seen log ≡ entry ∷ [] = front_rest log seen (entry ∷ []) is in (
         (
           (entry ∷ [], is),
@@ -155,4 +150,10 @@ module _ {E : Type 0} (party_of : E → ℕ) where
               (All-cons (λ entry. Contains parties (party_of entry)) entry [] has (All-nil (λ entry. Contains parties (party_of entry)))),
         ),
         one,
+      )
+  goes_on parties seen log entry has false is =
+      let same : log ≡ seen ++ [] = is ∙ sym (append-nil seen) in
+      let none : after seen log ≡ [] = front_rest log seen [] same in (
+        (([], same), All-same (λ entry. Contains parties (party_of entry)) (after seen log) [] none (All-nil (λ entry. Contains parties (party_of entry)))),
+        none,
       )

@@ -3,3 +3,4 @@ pub mod Logs
 pub mod Seats
 pub mod Views
 pub mod Order
+pub mod Diaries

@@ -6,6 +6,7 @@
 //! once and in its order, and no others. Nothing is said of who is served when.
 #![tactic(auto)]
 
+pub mod diary;
 mod held;
 mod kept;
 mod known;
