@@ -73,9 +73,6 @@ module _ {A : Type 0} where
       (leb_tells (length a) (length b))
 
 module _ {E : Type 0} (party_of : E → ℕ) where
-  of : ℕ → List E → List E
-  of = entries_of party_of
-
   pub entries-append : (party : ℕ) (a b : List E) → entries_of party_of party (a ++ b) ≡ entries_of party_of party a ++ entries_of party_of party b
   entries-append party a b = filter-append (λ entry. party_of entry == party) a b
 

@@ -15,7 +15,7 @@ use Rattle.atomic_table.proofs.Lists.{at_set, set_here, set_else, at_longer}
 use Rattle.bf_turn.specs.declared.known.Known.{Known}
 use Rattle.bf_turn.specs.declared.view.View.{View}
 use Rattle.bf_turn.specs.Logs.{entries_of, HasJust, StartsWith, GoesOn, after}
-use Rattle.bf_turn.specs.Seats.{Owns, opened, passed, without, newcomer, joined}
+use Rattle.bf_turn.specs.Seats.{HasOwnCalls, opened, passed, without, newcomer, joined}
 use Rattle.bf_turn.specs.Views.{first_view, left_view, right_view, joined_view, spent_view}
 use Rattle.bf_turn.specs.Order.{Fits, IsHome, IsOrderly, Takes, Tried, Passed, Recalled, Carries, carried_log}
 use Rattle.bf_turn.proofs.Places.{at_below, at_end, set_swap, set_single, there_is}
@@ -224,7 +224,7 @@ module _ {S E N : Type 0} (log_of : S → List E) (name_of : S → N) (party_of 
                   (
                     subst (λ l. StartsWith l v.known.seen) (sym log_is) fit.seen,
                     (
-                      subst (Owns party_of v.known) (sym log_is) fit.owns,
+                      subst (HasOwnCalls party_of v.known) (sym log_is) fit.owns,
                       there_is v.known.name name known fit.named ∙ ap Some (sym home.1.2),
                     ),
                   ),
@@ -273,9 +273,9 @@ module _ {S E N : Type 0} (log_of : S → List E) (name_of : S → N) (party_of 
       (subst (TryAt s id v k at) (sym k.word) (tries_here s id v k at some known k.held refl))
 
   -- what a seat owns of a log that goes on by its calls
-  owns_on : (known : Known E N) (log more : List E) → known.seen ≡ log → Owns party_of known log
+  owns_on : (known : Known E N) (log more : List E) → known.seen ≡ log → HasOwnCalls party_of known log
       → ((party : ℕ) → (Contains known.parties party → ⊥) → entries_of party_of party more ≡ [])
-      → Owns party_of (record known { seen = log ++ more; calls = known.calls ++ more; passes = known.passes + 1 }) (log ++ more)
+      → HasOwnCalls party_of (record known { seen = log ++ more; calls = known.calls ++ more; passes = known.passes + 1 }) (log ++ more)
   owns_on known log more whole owns none = record {
     seen = λ p has. refl;
     calls = λ p has. entries-append party_of p log more ∙ ap (λ l. l ++ entries_of party_of p more) (owns.calls p has) ∙ sym (entries-append party_of p known.calls more);
@@ -311,7 +311,7 @@ module _ {S E N : Type 0} (log_of : S → List E) (name_of : S → N) (party_of 
             turn = λ h. absurd (true≢false (sym h));
             seen = starts_all (log_of x);
             past = subst (λ l. StartsWith l v.past) (sym log_is) (starts_more k.log v.past more fit.past);
-            owns = subst (λ l. Owns party_of w.known l) (sym log_is) (subst (λ known. Owns party_of known (k.log ++ more)) known_is (owns_on v.known k.log more is.1 fit.owns none));
+            owns = subst (λ l. HasOwnCalls party_of w.known l) (sym log_is) (subst (λ known. HasOwnCalls party_of known (k.log ++ more)) known_is (owns_on v.known k.log more is.1 fit.owns none));
             few = fit.few;
             named = fit.named;
           };
@@ -402,8 +402,8 @@ module _ {S E N : Type 0} (log_of : S → List E) (name_of : S → N) (party_of 
       its p there = subst (Contains v.known.parties) (sym (only_there party p there)) has
 
   -- what two seats own together
-  owns_both : (a b : Known E N) (log : List E) → StartsWith log a.seen → StartsWith log b.seen → Owns party_of a log → Owns party_of b log
-      → ((party : ℕ) → Contains a.parties party → Contains b.parties party → ⊥) → Owns party_of (joined a b) log
+  owns_both : (a b : Known E N) (log : List E) → StartsWith log a.seen → StartsWith log b.seen → HasOwnCalls party_of a log → HasOwnCalls party_of b log
+      → ((party : ℕ) → Contains a.parties party → Contains b.parties party → ⊥) → HasOwnCalls party_of (joined a b) log
   owns_both a b log sa sb oa ob apart = record {
     seen = λ p has. of_longer party_of p log a.seen b.seen sa sb (⊎_elim (λ t. inl (oa.seen p t)) (λ t. inr (ob.seen p t)) (Contains-append_cases a.parties b.parties p has));
     calls = λ p has. ⊎_elim
@@ -463,7 +463,7 @@ module _ {S E N : Type 0} (log_of : S → List E) (name_of : S → N) (party_of 
             (at_set s.views other j spent_view u e);
       }))
 
-  module _ (known : Known E N) (log : List E) (fit : Owns party_of known log) (starts : StartsWith log known.seen)
+  module _ (known : Known E N) (log : List E) (fit : HasOwnCalls party_of known log) (starts : StartsWith log known.seen)
       (few : (party : ℕ) → Contains known.parties party → party < parties)
       (within : (party : ℕ) → parties ≤ party → entries_of party_of party log ≡ [])
       (all : (party : ℕ) → party < parties → Contains known.parties party) where

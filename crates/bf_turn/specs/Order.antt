@@ -6,14 +6,14 @@ use Rattle.atomic_table.specs.Table.{State, Me, rest}
 use Rattle.bf_turn.specs.declared.known.Known.{Known}
 use Rattle.bf_turn.specs.declared.view.View.{View}
 use Rattle.bf_turn.specs.Logs.{entries_of, StartsWith}
-use Rattle.bf_turn.specs.Seats.{Owns, passed}
+use Rattle.bf_turn.specs.Seats.{HasOwnCalls, passed}
 
 -- A seat fits a log of so many parties, whose state has this name. Who has the turn has a party, and has seen the whole log.
 pub record Fits {E N : Type 0} (party_of : E → ℕ) (parties : ℕ) (name : N) (held : Bool) (log : List E) (view : View E N) : Type 0 where
   pub turn : view.turn ≡ true → (held ≡ true) × (view.known.seen ≡ log) × ((party : ℕ) × Contains view.known.parties party)
   pub seen : StartsWith log view.known.seen
   pub past : StartsWith log view.past
-  pub owns : Owns party_of view.known log
+  pub owns : HasOwnCalls party_of view.known log
   pub few : (party : ℕ) → Contains view.known.parties party → party < parties
   pub named : IfSome view.known.name (λ known. known ≡ name)
 
@@ -54,7 +54,7 @@ module _ {S E N : Type 0} (log_of : S → List E) (name_of : S → N) (party_of 
   abbrev pub Takes : (me now : Me (Option S) (View E N)) → Type 0
   Takes me now =
       Carries (λ state. (now.0 ≡ record me.0 { turn = true; known = record me.0.known { seen = log_of state } })
-      × (StartsWith (log_of state) me.0.known.seen × (Owns party_of me.0.known (log_of state) × (me.0.known.name ≡ Some (name_of state))))) now.1
+      × (StartsWith (log_of state) me.0.known.seen × (HasOwnCalls party_of me.0.known (log_of state) × (me.0.known.name ≡ Some (name_of state))))) now.1
       × (rest now.1 ≡ [])
 
   -- who finds the turn free takes it, and who doesn't stays as it was

@@ -16,7 +16,7 @@ pub record Sitting (E N : Type 0) : Type 0 where
   pub known : Known E N
 
 -- Of each party of a seat a log has just the seat's calls, all of which the seat has seen. The seat has no calls of others.
-pub record Owns {E N : Type 0} (party_of : E → ℕ) (known : Known E N) (log : List E) : Type 0 where
+pub record HasOwnCalls {E N : Type 0} (party_of : E → ℕ) (known : Known E N) (log : List E) : Type 0 where
   pub seen : (party : ℕ) → Contains known.parties party → entries_of party_of party log ≡ entries_of party_of party known.seen
   pub calls : (party : ℕ) → Contains known.parties party → entries_of party_of party log ≡ entries_of party_of party known.calls
   pub alone : (party : ℕ) → ¬ Contains known.parties party → entries_of party_of party known.calls ≡ []

@@ -6,9 +6,12 @@ pub trait Logged: Drop {
 
     type Name;
 
+    // All entries so far.
     ghost log: { Self → List Self.Entry };
 
+    // What no call on the lock changes.
     ghost name: { Self → Self.Name };
 
+    // Whose call an entry is.
     ghost party: { Self.Entry → ℕ };
 }

@@ -1,6 +1,6 @@
 ghost use Rattle.std.specs.Prelude.{◌≡◌, ◌≢◌, ℕ, ◌<◌, [], Contains, IfOk, IfErr, Some};
 ghost use Rattle.bf_turn.specs.Logs.{entries_of, StartsWith, GoesOn, HasJust};
-ghost use Rattle.bf_turn.specs.Seats.{Owns, opened, passed, without, newcomer, joined};
+ghost use Rattle.bf_turn.specs.Seats.{HasOwnCalls, opened, passed, without, newcomer, joined};
 
 use crate::held::{Grip, Held};
 use crate::kept::Kept;
@@ -14,7 +14,7 @@ use std::marker::{Brand, Model};
 use std::snapshot::Snapshot;
 use std::sync::Wait;
 
-/// A state that threads take in turn. Those who wait for it sleep.
+/// A state that threads take in turn. Who waits for it sleeps.
 #[derive(Drop)]
 pub struct Turns<S: Logged> {
     table: Table<Option<S>, View<S::Entry, S::Name>, Key<S>, InTurn<S>, Global>,
@@ -62,14 +62,14 @@ impl<S: Logged> Turns<S> {
         }
     }
 
-    /// Waits for the turn.
+    /// Waits for the turn, and may wait forever.
     pub fn take<H: Wait>(&self, rt: &H, seat: Seat<S>) -> Held<S>
         requires lock { seat.lock ≡ self.now.lock }
         requires party { seat.known.parties ≢ [] }
         ensures lock { result.grip.lock ≡ seat.lock }
         ensures grip { result.grip.known ≡ record seat.known { seen = S.log result.state } }
         ensures seen { StartsWith (S.log result.state) seat.known.seen }
-        ensures own { Owns S.party seat.known (S.log result.state) }
+        ensures own { HasOwnCalls S.party seat.known (S.log result.state) }
         ensures named { seat.known.name ≡ Some (S.name result.state) }
     {
         let Seat { inner } = seat;
@@ -91,7 +91,7 @@ impl<S: Logged> Turns<S> {
         unreachable!()
     }
 
-    /// Gives the state back, and wakes one who waits for it. Its log may have grown by calls of the seat's parties.
+    /// Gives the state back, with what the seat has added to its log, and wakes one who waits for it.
     pub fn give(&self, held: Held<S>) -> Seat<S>
         requires lock { held.grip.lock ≡ self.now.lock }
         requires named { held.grip.known.name ≡ Some (S.name held.state) }
@@ -111,7 +111,7 @@ impl<S: Logged> Turns<S> {
         Seat { inner }
     }
 
-    /// Splits a party off that has made no call: the seat of the others, and one for this party alone.
+    /// Splits off a party that has made no call: a seat for the others, and one for this party alone.
     pub fn split(&self, seat: Seat<S>, party: u32) -> (Seat<S>, Seat<S>)
         requires lock { seat.lock ≡ self.now.lock }
         requires party { Contains seat.known.parties party }
@@ -123,7 +123,7 @@ impl<S: Logged> Turns<S> {
         self.cut::<Brand>(seat, party)
     }
 
-    // The same for a party that a proof can name.
+    // The table's split has no operand: the party comes by the type, which the call above picks.
     fn cut<B: Picked>(&self, seat: Seat<S>, party: u32) -> (Seat<S>, Seat<S>)
         requires lock { seat.lock ≡ self.now.lock }
         requires picked { B.party ≡ party }
@@ -140,7 +140,7 @@ impl<S: Logged> Turns<S> {
         (Seat { inner }, Seat { inner: other })
     }
 
-    /// Joins two seats: one that has the parties and calls of both, and has seen what either had.
+    /// Joins two seats to one that has the parties and calls of both, and has seen what either had.
     pub fn join(&self, a: Seat<S>, b: Seat<S>) -> Seat<S>
         requires a { a.lock ≡ self.now.lock }
         requires b { b.lock ≡ self.now.lock }
