@@ -1,6 +1,5 @@
 -- The notes of one writer among those of several.
-use Rattle.std.proofs.Common.{◌≡◌, ℕ, ◌+◌, ◌<◌, ◌≤◌, ◌≢◌, List, [], ◌∷◌, ◌++◌, cond, arith, refl, ap, sym, ◌∙◌, eq-eqb, ne_eqb}
-use Rattle.std.specs.Prelude.{◌==◌}
+use Rattle.std.proofs.Common.{◌≡◌, ℕ, ◌≤◌, ◌≢◌, List, [], ◌∷◌, ◌++◌, cond, arith, refl, ap, ◌∙◌, eq-eqb, ne_eqb}
 use Rattle.bf_turn.specs.declared.diary.Note.{Note}
 use Rattle.bf_turn.specs.Logs.{entries_of, HasJust}
 use Rattle.bf_turn.specs.Diaries.{writer_of, notes_of}

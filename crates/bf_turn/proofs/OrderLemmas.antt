@@ -15,11 +15,11 @@ use Rattle.atomic_table.proofs.Lists.{at_set, set_here, set_else, at_longer}
 use Rattle.bf_turn.specs.declared.known.Known.{Known}
 use Rattle.bf_turn.specs.declared.view.View.{View}
 use Rattle.bf_turn.specs.Logs.{entries_of, HasJust, StartsWith, GoesOn, after}
-use Rattle.bf_turn.specs.Seats.{HasOwnCalls, opened, passed, without, newcomer, joined}
+use Rattle.bf_turn.specs.Seats.{HasOwnCalls, passed, without, joined}
 use Rattle.bf_turn.specs.Views.{first_view, left_view, right_view, joined_view, spent_view}
-use Rattle.bf_turn.specs.Order.{Fits, IsHome, IsOrderly, Takes, Tried, Passed, Recalled, Carries, carried_log}
+use Rattle.bf_turn.specs.Order.{Fits, IsHome, IsOrderly, Tried, Passed, Recalled, Carries}
 use Rattle.bf_turn.proofs.Places.{at_below, at_end, set_swap, set_single, there_is}
-use Rattle.bf_turn.proofs.PartyLemmas.{none_there, one_there, only_there, below_there, there_below, others_there, others_stay}
+use Rattle.bf_turn.proofs.PartyLemmas.{none_there, only_there, there_below, others_there, others_stay}
 use Rattle.std.proofs.lemmas.List.Elements.{Contains-append_left, Contains-append_right, Contains-append_cases}
 use Rattle.std.proofs.lemmas.List.Prefix.{front_rest}
 use Rattle.bf_turn.proofs.LogLemmas.{starts_all, starts_none, starts_more, begins_longer, begins_with_longer, begins_with_shorter, first_of_nothing, entries-append, entries-append_none, none-entries-append, none_of_others, of_longer, all_seen}

@@ -3,7 +3,6 @@ use Rattle.std.specs.Prelude.{◌≡◌, ℕ, ◌<◌, ◌≤◌, Bool, true, fa
 use mathlib.Core.Option as options
 use lib.ListN.{get_elem?}
 use Rattle.atomic_table.specs.Table.{State, Me, rest}
-use Rattle.bf_turn.specs.declared.known.Known.{Known}
 use Rattle.bf_turn.specs.declared.view.View.{View}
 use Rattle.bf_turn.specs.Logs.{entries_of, StartsWith}
 use Rattle.bf_turn.specs.Seats.{HasOwnCalls, passed}

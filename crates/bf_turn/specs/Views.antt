@@ -1,5 +1,5 @@
 -- What the table keeps of each seat, beside what the seat knows.
-use Rattle.std.specs.Prelude.{◌≡◌, ℕ, Bool, true, false, List, [], ◌∷◌, Option, None, IsSome}
+use Rattle.std.specs.Prelude.{◌≡◌, ℕ, true, false, [], ◌∷◌, Option, None, IsSome}
 use Rattle.atomic_table.specs.Table.{Me}
 use Rattle.bf_turn.specs.declared.known.Known.{Known}
 use Rattle.bf_turn.specs.declared.view.View.{View}

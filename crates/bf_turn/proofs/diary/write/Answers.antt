@@ -1,4 +1,4 @@
-use Rattle.std.proofs.Common.{rules, ◌≡◌, ◌∙◌, ap, subst, sym}
+use Rattle.std.proofs.Common.{rules}
 use Rattle.bf_turn.specs.Diaries.{writer_of}
 use Rattle.bf_turn.proofs.LogLemmas.{goes_on}
 use Rattle.bf_turn.proofs.diary.write.Goals as goal

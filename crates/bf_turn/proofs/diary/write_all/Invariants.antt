@@ -1,4 +1,4 @@
-use Rattle.std.proofs.Common.{◌≡◌, take, true}
+use Rattle.std.proofs.Common.{take, true}
 use Rattle.bf_turn.specs.Diaries.{WritesAll}
 use Rattle.bf_turn.proofs.diary.write_all.Given as goal
 

@@ -1,4 +1,4 @@
-use Rattle.std.proofs.Common.{rules, ◌≡◌, ℕ, zero, suc, ◌<◌, List, [], ◌∷◌, arith, refl, subst, sym}
+use Rattle.std.proofs.Common.{rules, ◌≡◌, ℕ, zero, suc, ◌<◌, [], ◌∷◌, arith, refl, subst, sym}
 use Rattle.std.specs.Prelude.{Contains}
 use Rattle.bf_turn.proofs.tests.notes_stand_in_the_order_of_turns.Goals as goal
 

@@ -1,4 +1,4 @@
-use Rattle.std.proofs.Common.{rules, ◌≢◌, [], ◌∙◌, subst, sym}
+use Rattle.std.proofs.Common.{rules, ◌≢◌, [], subst, sym}
 use Rattle.bf_turn.proofs.PartyLemmas.{some_there}
 use Rattle.bf_turn.proofs.OrderLemmas.{tries, carried_there}
 use Rattle.bf_turn.proofs.turns.Turns.take.Goals as goal
