@@ -51,8 +51,7 @@ impl<S: Logged> Turns<S> {
         match Table::new(alloc, &[0], slots, &about) {
             Ok((table, inner)) => Ok((Turns { table }, Seat { inner })),
             Err(refused) => {
-                let Refused { slots } = refused;
-                let mut slots = slots;
+                let Refused { mut slots } = refused;
                 let Some(Some(value)) = slots.pop() else {
                     unreachable!()
                 };
@@ -72,8 +71,7 @@ impl<S: Logged> Turns<S> {
         ensures own { HasOwnCalls S.party seat.known (S.log result.state) }
         ensures named { seat.known.name ≡ Some (S.name result.state) }
     {
-        let Seat { inner } = seat;
-        let mut inner = inner;
+        let Seat { mut inner } = seat;
         let shared = &self.table.shared;
         for _ in rt.forever() {
             let found = shared.compare_exchange::<Try>(&mut inner, 0, 0, 1);
@@ -100,8 +98,7 @@ impl<S: Logged> Turns<S> {
         ensures seat { result.known ≡ passed held.grip.known (S.log held.state) }
     {
         let Held { grip, state } = held;
-        let Grip { inner } = grip;
-        let mut inner = inner;
+        let Grip { mut inner } = grip;
         let shared = &self.table.shared;
         let None = shared.exchange(&mut inner, 0, Some(state)) else {
             unreachable!()
@@ -134,8 +131,7 @@ impl<S: Logged> Turns<S> {
         ensures one { result.1.known ≡ newcomer party seat.known }
     {
         let _ = party;
-        let Seat { inner } = seat;
-        let mut inner = inner;
+        let Seat { mut inner } = seat;
         let other = self.table.shared.split_seat::<Cut<B>>(&mut inner);
         (Seat { inner }, Seat { inner: other })
     }
@@ -148,8 +144,7 @@ impl<S: Logged> Turns<S> {
         ensures seat { result.known ≡ joined a.known b.known }
         ensures seen { StartsWith result.known.seen a.known.seen × StartsWith result.known.seen b.known.seen }
     {
-        let Seat { inner } = a;
-        let mut inner = inner;
+        let Seat { mut inner } = a;
         let Seat { inner: other } = b;
         let shared = &self.table.shared;
         shared.join_seat::<Both>(&mut inner, other);
