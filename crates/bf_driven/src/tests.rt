@@ -299,6 +299,31 @@ fn a_death_its_restore_and_its_repair(rt: HostRuntime) -> Result<(), Fail> {
     Ok(())
 }
 
+// Each rank gives its copy to the other, with eight cells of 80 or of 0.
+#[test]
+fn a_run_without_steps_has_a_snapshot_alone(rt: HostRuntime) -> Result<(), Fail> {
+    let alloc = rt.alloc();
+    let row = Row { steps: 0, ..TWO };
+    let world = driven(
+        &rt,
+        alloc,
+        row.case(alloc, Vec::new(alloc), Vec::new(alloc))?,
+    )?;
+    let told = [
+        copy(0, 1, 640),
+        copy(1, 0, 0),
+        recv(0, 1),
+        recv(1, 0),
+        done(0),
+        done(1),
+        Event::Leave { rank: 0 },
+        Event::Leave { rank: 1 },
+    ];
+    assert_eq!(rt; world.journal(), told.as_slice());
+    expect_leaves(&rt, alloc, &world, 2, [80, 80, 0, 0])?;
+    Ok(())
+}
+
 // At the last step there is nothing to go on to.
 #[test]
 fn a_repair_at_the_last_step_ends_the_run(rt: HostRuntime) -> Result<(), Fail> {
