@@ -388,9 +388,9 @@ module _ {S L M T R B U : Type 0} (m : Meanings S L M T R) (regions : Regions S 
         (after, (refl, arrived_done parcel gives)))
 
   -- an arrival for want of memory
-  pub has_failed : (new : List Event) (view : RankView L) → view.rank < m.ranks setup → stage (run_after m setup journal).core view.rank ≡ Running → view.stand ≡ stands.Arrived
+  pub has_failed : (new : List Event) (view : RankView L) → view.rank < m.ranks setup → stage (run_after m setup journal).core view.rank ≡ Running → view.stand ≡ stands.Arrived → view.local ≡ None
       → new ≡ journal ++ Arrive view.rank Memory ∷ [] → HasTurned m good setup journal new view
-  has_failed new view ranked runs stand_is more = record {
+  has_failed new view ranked runs stand_is none more = record {
     event = Arrive view.rank Memory;
     more = more;
     turn = record { its = refl; offered = inr refl };
@@ -400,7 +400,7 @@ module _ {S L M T R B U : Type 0} (m : Meanings S L M T R) (regions : Regions S 
         (let Q : Stand → Type 0 = Agrees m good setup (sight (run_happened m setup run (Arrive view.rank Memory)) view.rank) (kept view) in
         subst Q (sym stand_is)
         (let P : Stage → Type 0 = HasLocal m good setup (sight (run_happened m setup run (Arrive view.rank Memory)) view.rank) (kept view) in
-        subst P (sym (moved_stage run.core view.rank (Arrived Memory false) (in_list run.core view.rank runs)).its) tt));
+        subst P (sym (moved_stage run.core view.rank (Arrived Memory false) (in_list run.core view.rank runs)).its) (ap (local_kept view.local) stand_is ∙ none)));
   }
 
   -- a death

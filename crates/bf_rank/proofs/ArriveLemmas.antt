@@ -83,6 +83,23 @@ module _ {S L M T R : Type 0} (m : Meanings S L M T R) (good : S → Epoch → �
     here = ap (λ l. (m.parcel l).0) here.here ∙ ap (λ b. if b then (m.parcel here.first).0 else here.first) (sym ends);
   }
 
+-- whoever has arrived for want of memory goes on, and need not leave
+short_goes_on : (s : Stage) → is_short s ≡ true → goes_on s ≡ true
+short_goes_on (Arrived how filled) short = refl
+short_goes_on Running short = absurd (cc)
+short_goes_on Leaving short = absurd (cc)
+short_goes_on Ended short = absurd (cc)
+short_goes_on Dead short = absurd (cc)
+short_goes_on Gone short = absurd (cc)
+
+short_stays : (s : Stage) → is_short s ≡ true → is_leaving s ≡ false
+short_stays (Arrived how filled) short = refl
+short_stays Running short = absurd (cc)
+short_stays Leaving short = absurd (cc)
+short_stays Ended short = absurd (cc)
+short_stays Dead short = absurd (cc)
+short_stays Gone short = absurd (cc)
+
 module _ {S L M T R : Type 0} (m : Meanings S L M T R) (good : S → Epoch → ℕ → List L → Type 0) (setup : S) (seen : Sight L) (view : RankView L) where
   -- what a rank has from its arrival on is that with which it has arrived, until it must leave
   pub arrived_has : (s : Stage) → is_leaving s ≡ false → HasLocal m good setup seen view s → HasArrived m good setup seen view s
@@ -92,6 +109,25 @@ module _ {S L M T R : Type 0} (m : Meanings S L M T R) (good : S → Epoch → �
   arrived_has Ended _ has = absurd has
   arrived_has Dead _ has = absurd has
   arrived_has Gone _ has = absurd has
+
+  -- whoever has arrived for want of memory has no local
+  pub short_has_none : (s : Stage) → is_short s ≡ true → HasArrived m good setup seen view s → view.local ≡ None
+  short_has_none (Arrived Memory filled) short none = none
+  short_has_none (Arrived Done filled) short has = absurd (cc)
+  short_has_none (Arrived Broken filled) short has = absurd (cc)
+  short_has_none Running short has = absurd has
+  short_has_none Leaving short has = absurd has
+  short_has_none Ended short has = absurd has
+  short_has_none Dead short has = absurd has
+  short_has_none Gone short has = absurd has
+
+  -- so it is in each account of a rank at such a stage
+  pub short_stand_has_none : (stand : Stand) → is_short seen.stage ≡ true → Agrees m good setup seen view stand → view.local ≡ None
+  short_stand_has_none stands.Opening short agrees = absurd (let e : false ≡ true = ap is_short (sym agrees.0) ∙ short in cc)
+  short_stand_has_none (stands.Placed at) short agrees = absurd (let e : false ≡ true = ap is_short (sym agrees.0) ∙ short in cc)
+  short_stand_has_none stands.Failed short agrees = agrees.1
+  short_stand_has_none stands.Ended short agrees = absurd (both_ways (goes_on seen.stage) agrees (short_goes_on seen.stage short))
+  short_stand_has_none stands.Arrived short agrees = short_has_none seen.stage short (arrived_has seen.stage (short_stays seen.stage short) agrees)
 
 -- the number that there may be
 lacks : (o : Option ℕ) (n : ℕ) → o ≡ None → is_just o n ≡ true → ⊥

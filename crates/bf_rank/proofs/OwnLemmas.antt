@@ -57,36 +57,36 @@ module _ {S L M T R B U : Type 0} (m : Meanings S L M T R) (regions : Regions S 
   abbrev HoldsTold : Stage → Type 0
   HoldsTold s = weight_with (local_times m regions unit) view.local ≡ weight_with (local_times m regions unit) (local_by m setup run view.rank s)
 
-  -- whoever has arrived otherwise than for want of memory has that local
-  arrived_holds : (s : Stage) → is_short s ≡ false → HasArrived m good setup (sight run view.rank) view s → HoldsTold s
-  arrived_holds (Arrived Done filled) fits (local, (its, has)) =
+  -- whoever has arrived has that local, or for want of memory none
+  arrived_holds : (s : Stage) → HasArrived m good setup (sight run view.rank) view s → HoldsTold s
+  arrived_holds (Arrived Done filled) (local, (its, has)) =
       ap (weight_with (local_times m regions unit)) (its ∙ sym (ap (option_map (local_left m setup run)) has.its ∙ ap Some (sym has.here)))
-  arrived_holds (Arrived Broken filled) fits (local, (its, here)) =
+  arrived_holds (Arrived Broken filled) (local, (its, here)) =
       ap (weight_with (local_times m regions unit)) (its ∙ sym (local_of_place m good setup run view.rank (place run view.rank) local here))
-  arrived_holds (Arrived Memory filled) short has = absurd (cc)
-  arrived_holds Running fits has = absurd has
-  arrived_holds Leaving fits has = absurd has
-  arrived_holds Ended fits has = absurd has
-  arrived_holds Dead fits has = absurd has
-  arrived_holds Gone fits has = absurd has
+  arrived_holds (Arrived Memory filled) none = ap (weight_with (local_times m regions unit)) none
+  arrived_holds Running has = absurd has
+  arrived_holds Leaving has = absurd has
+  arrived_holds Ended has = absurd has
+  arrived_holds Dead has = absurd has
+  arrived_holds Gone has = absurd has
 
   -- so has each rank in its rounds that has not failed, or at its opening one with the same pieces
   stand_holds : (stand : Stand) → ((y : ℕ) → is_member run.core.epoch.members y ≡ true → y < m.ranks setup)
-      → goes_on (stage run.core view.rank) ≡ true → is_leaving (stage run.core view.rank) ≡ false → is_short (stage run.core view.rank) ≡ false
+      → goes_on (stage run.core view.rank) ≡ true → is_leaving (stage run.core view.rank) ≡ false
       → (stand ≡ stands.Failed → ⊥) → Agrees m good setup (sight run view.rank) view stand → HoldsTold (stage run.core view.rank)
-  stand_holds stands.Opening below goes stays fits unfailed agrees =
+  stand_holds stands.Opening below goes stays unfailed agrees =
       subst HoldsTold (sym agrees.0)
       (ap (weight_with (local_times m regions unit)) (agrees.1.1.1.1.0 ∙ sym agrees.1.1.1.1.1)
       ∙ begins_with m regions good setup laws unit run lawful below view.rank agrees.1.1.0)
-  stand_holds (stands.Placed at) below goes stays fits unfailed agrees =
+  stand_holds (stands.Placed at) below goes stays unfailed agrees =
       subst HoldsTold (sym agrees.0)
       (ap (weight_with (local_times m regions unit))
       (agrees.1.1.1.1.0 ∙ sym (ap (local_at_place m setup run.core.epoch run.start view.rank) agrees.1.1.0
       ∙ local_of_place m good setup run view.rank at agrees.1.1.1.0 agrees.1.1.1.1.1)))
-  stand_holds stands.Failed below goes stays fits unfailed agrees = absurd (unfailed refl)
-  stand_holds stands.Ended below goes stays fits unfailed agrees = absurd (both_ways (goes_on (stage run.core view.rank)) agrees goes)
-  stand_holds stands.Arrived below goes stays fits unfailed agrees =
-      arrived_holds (stage run.core view.rank) fits (arrived_has m good setup (sight run view.rank) view (stage run.core view.rank) stays agrees)
+  stand_holds stands.Failed below goes stays unfailed agrees = absurd (unfailed refl)
+  stand_holds stands.Ended below goes stays unfailed agrees = absurd (both_ways (goes_on (stage run.core view.rank)) agrees goes)
+  stand_holds stands.Arrived below goes stays unfailed agrees =
+      arrived_holds (stage run.core view.rank) (arrived_has m good setup (sight run view.rank) view (stage run.core view.rank) stays agrees)
 
   -- who must leave into an epoch that a commit began has a local with the pieces of that with which it begins
   leaving_holds : (stand : Stand) → stage run.core view.rank ≡ Leaving → run.core.outcome ≡ None → run.core.epoch.restored ≡ false
@@ -118,14 +118,14 @@ module _ {S L M T R B U : Type 0} (m : Meanings S L M T R) (regions : Regions S 
   own : HoldsTold m regions good world.setup laws unit told lawful view (stage told.core view.rank) → HasOwn
   own holds = boxes_weigh m regions unit view.local ∙ holds ∙ sym (held_weighs m regions unit world view.rank)
 
-  pub staying_has_own : goes_on (stage told.core view.rank) ≡ true → is_leaving (stage told.core view.rank) ≡ false → is_short (stage told.core view.rank) ≡ false
+  pub staying_has_own : goes_on (stage told.core view.rank) ≡ true → is_leaving (stage told.core view.rank) ≡ false
       → view.stand ≢ stands.Failed → HasOwn
-  staying_has_own goes stays fits unfailed =
+  staying_has_own goes stays unfailed =
       own (stand_holds m regions good world.setup laws unit told lawful view view.stand
       (register m good world.setup laws.goods laws.stores told lawful
       (after_result m good world.setup laws.goods laws.stores laws.limits world.journal seen.legal)
       (after_kept m good world.setup laws.goods laws.stores laws.limits world.journal seen.legal)).below
-      goes stays fits unfailed at.agrees)
+      goes stays unfailed at.agrees)
 
   pub leaving_has_own : is_leaving (stage told.core view.rank) ≡ true → told.core.outcome ≡ None → told.core.epoch.restored ≡ false → HasOwn
   leaving_has_own leaves none commits =

@@ -93,11 +93,11 @@ module _ {S L M T R : Type 0} (m : Meanings S L M T R) (good : S → Epoch → �
       IsRestoring m good setup seen.epoch rank local × (local_of seen.epoch.members seen.start rank ≡ Some (m.restore setup local rank seen.epoch))
 
   -- what a rank has with which it has arrived, by its stage: done, the last local less the parcel that it has given; broken, its local
-  -- at its place; nothing is said where it wanted memory
+  -- at its place; for want of memory, none
   abbrev pub HasArrived : Sight L → RankView L → Stage → Type 0
   HasArrived seen view (Arrived Done filled) = (local : L) × ((view.local ≡ Some local) × HasFinished seen view.rank local)
   HasArrived seen view (Arrived Broken filled) = (local : L) × ((view.local ≡ Some local) × IsLocalAt seen view.rank seen.place local)
-  HasArrived seen view (Arrived Memory filled) = Unit {0}
+  HasArrived seen view (Arrived Memory filled) = view.local ≡ None
   HasArrived seen view Running = ⊥
   HasArrived seen view Leaving = ⊥
   HasArrived seen view Ended = ⊥

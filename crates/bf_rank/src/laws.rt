@@ -39,15 +39,26 @@ pub fn the_decided_epoch_began_good<P: RankProgram>()
     each_epoch_begins_good::<P>();
 }
 
-/// What a rank has is what it owns: until its epoch is decided, and unless it has found no memory, its local has the pieces
-/// of the local that the journal tells. Before its first event a rank has not passed first rounds without peers, which the
+/// A rank that finds no memory drops its local: it has none from its failure on [failed], none once it has arrived for want of
+/// memory [arrived], and none until it leaves after that [leaves]. So it has no piece.
+pub fn a_rank_without_memory_has_no_local<P: RankProgram>()
+    ensures failed { (setup : P.Setup) (journal : List Event) (view : RankView P.Local) → IsAt P.meanings P.good setup journal view
+        → view.stand ≡ Failed → view.local ≡ None }
+    ensures arrived { (setup : P.Setup) (journal : List Event) (view : RankView P.Local) → IsAt P.meanings P.good setup journal view
+        → IsTrue (is_short (stage (core_after P.meanings setup journal) view.rank)) → view.local ≡ None }
+    ensures leaves { (setup : P.Setup) (journal : List Event) (view : RankView P.Local) → IsAt P.meanings P.good setup journal view
+        → IsTrue (is_leaving (stage (core_after P.meanings setup journal) view.rank))
+        → IsTrue (is_short (stage (last_decided P.meanings setup journal).core view.rank)) → view.local ≡ None }
+{}
+
+/// What a rank has is what it owns: until its epoch is decided, and unless it has failed and not arrived yet, its local has
+/// the pieces of the local that the journal tells; for want of memory both have none. Before its first event a rank has not passed first rounds without peers, which the
 /// journal counts as passed: there the two locals may differ, and their pieces agree.
 pub fn a_rank_has_what_it_owns<P: RankProgram>()
     ensures { (world : View P.Setup P.Msg P.Part) (view : RankView P.Local) (unit : P.Spot) → IsView P.meanings world
         → IsAt P.meanings P.good world.setup world.journal view
         → IsTrue (goes_on (stage (core_after P.meanings world.setup world.journal) view.rank))
-        → is_leaving (stage (core_after P.meanings world.setup world.journal) view.rank) ≡ false
-        → is_short (stage (core_after P.meanings world.setup world.journal) view.rank) ≡ false → view.stand ≢ Failed
+        → is_leaving (stage (core_after P.meanings world.setup world.journal) view.rank) ≡ false → view.stand ≢ Failed
         → times P.regions (boxes_of P.regions view.local) unit ≡ times P.regions (held P.meanings P.regions world view.rank) unit }
 {}
 

@@ -7,7 +7,7 @@ use Rattle.bf_buddy.specs.Members.{is_member}
 use Rattle.bf_buddy.specs.Losses.{first_lost_of}
 use Rattle.bf_buddy.proofs.MemberLemmas.{filter_members, member_head, member_tail}
 use Rattle.bf_program.specs.declared.epoch.Epoch.{Epoch}
-use Rattle.bf_program.specs.Epochs.{epoch_after_restore}
+use Rattle.bf_program.specs.Epochs.{target_of, epoch_after_restore}
 use Rattle.bf_program.specs.Meanings.{Meanings}
 use Rattle.bf_program.specs.Laws.{KeepsLimits, KeepsGood, KeepsStored, KeepsParts}
 use Rattle.bf_program.specs.Lockstep.{lockstep}
@@ -59,6 +59,11 @@ restored_parts : (state : State) → IsSameSnapshot state (decided state Restore
     × ((decided state Restore).epoch.members ≡ live_members state))
 unfolding decided dissolved
 restored_parts state = (record { time = refl; homes = refl; stored = refl }, (refl, refl))
+
+-- and begins a repair, which ends where it begins
+repairs : (state : State) → ((decided state Restore).epoch.restored ≡ true) × ((decided state Restore).epoch.target ≡ (decided state Restore).epoch.time)
+unfolding decided dissolved
+repairs state = (refl, refl)
 
 -- a commit after which the run goes on is not at the last step
 unended : (state : State) → state.outcome ≡ None → (decided state Commit).outcome ≡ None → (state.epoch.target == state.steps) ≡ false
@@ -252,6 +257,8 @@ module _ {S L M T R : Type 0} (m : Meanings S L M T R) (good : S → Epoch → �
             ∙ ap (λ e. restored_locals m setup e (λ rank. lives (stage now rank)) (run_after m setup journal).start) kept.epoch
             ∙ restored_alike m setup (core_after m setup journal).epoch (λ rank. lives (stage now rank)) (λ rank. not (has_died (journal ++ event ∷ []) rank))
             (run_after m setup journal).start (alive none);
+        restored = ap (λ s. s.epoch.restored) core_is ∙ (repairs now).0;
+        target = ap (λ s. s.epoch.target) core_is ∙ (repairs now).1 ∙ ap (λ s. s.epoch.time) (sym core_is);
       }
 
   -- at a commit all members live
@@ -299,4 +306,7 @@ module _ {S L M T R : Type 0} (m : Meanings S L M T R) (good : S → Epoch → �
             (last_good m good setup goods stores (run_after m setup journal) before.steady) below;
         members = ap (λ e. e.members) epoch_is ∙ ap (λ e. e.members) kept.epoch;
         start = start_is;
+        restored = ap (λ e. e.restored) epoch_is;
+        target = ap (λ e. e.target) epoch_is ∙ ap (λ n. target_of n now.interval now.epoch.target) steady.steps
+            ∙ ap (λ n. target_of (m.steps setup) n now.epoch.target) steady.interval ∙ ap (target_of (m.steps setup) (m.interval setup)) target;
       }

@@ -33,7 +33,8 @@ pub fn commits_alone_change_the_agreed_snapshot<P: RankProgram>()
 {}
 
 /// A restore is whole: the run goes on from the snapshot that was agreed, the members are exactly the ranks that live, and
-/// each part that has a block is given to exactly one of them, its home where that lives and else the home's buddy.
+/// each part that has a block is given to exactly one of them, its home where that lives and else the home's buddy. Repair
+/// comes first: the next epoch ends at the snapshot's time, so that the copies are made again before any step.
 pub fn a_restore_gives_all_back<P: RankProgram>()
     ensures { (setup : P.Setup) (journal : List Event) (event : Event) → IsTrue (is_journal P.meanings setup (journal ++ event ∷ []))
         → IsTrue (brings_restore P.meanings setup (run_after P.meanings setup journal) event)
@@ -43,7 +44,8 @@ pub fn a_restore_gives_all_back<P: RankProgram>()
 }
 
 /// At a commit the members are exactly the ranks that live. Where the run goes on, it agrees on the new snapshot: of the
-/// time to which the epoch went, with the members as its homes.
+/// time to which the epoch went, with the members as its homes. The next epoch has the same members, and goes a snapshot's
+/// interval on from that time, or to the end of the run.
 pub fn a_commit_agrees_on_the_new_snapshot<P: RankProgram>()
     ensures all_live { (setup : P.Setup) (journal : List Event) (event : Event) → IsTrue (is_journal P.meanings setup (journal ++ event ∷ []))
         → IsTrue (brings_commit P.meanings setup (run_after P.meanings setup journal) event)

@@ -62,7 +62,7 @@ returns-in-Short g c =
     let more = ok_of c.arrive.result (c.arrive.ensures.memory refl) c.arrive.ensures.journal
     ∙ ap (λ j. j ++ Arrive c.self.inside.rank Memory ∷ []) c.in-Short.ensures.stepped.0 in
     let made = turn_made _ _ _ _ _ c.self.inside.rank c.args.self.now.rank None c.step-made.new.epoch stands.Arrived c.stand_on-in-Short.new.self c.stand_on-in-Short.result
-    (has_failed _ _ _ _ laws _ legal _ (viewed c.self.inside.rank None c.step-made.new.epoch stands.Arrived) at.within c.in-Short.ensures.stepped.1.0 refl more)
+    (has_failed _ _ _ _ laws _ legal _ (viewed c.self.inside.rank None c.step-made.new.epoch stands.Arrived) at.within c.in-Short.ensures.stepped.1.0 refl refl more)
     c.stand_on-in-Short.ensures.view c.stand_on-in-Short.ensures.turn (ap (λ v. v.rank) c.self.view_is) in
     record {
       setup = c.arrive.ensures.setup ∙ c.step-made.ensures.setup;
