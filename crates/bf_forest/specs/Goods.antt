@@ -93,6 +93,7 @@ pub record HasCopies (shift : ℕ) (epoch : Epoch) (locals : List ForestLocal) (
   pub time : local.buffers.spare.time ≡ epoch.target
   pub homes : local.buffers.spare.homes ≡ epoch.members
   pub own : local.buffers.spare.own ≡ local.blocks
+  pub source_member : Contains epoch.members local.buffers.spare.source
   pub source : buddy_of epoch.members local.buffers.spare.source shift ≡ local.rank
   pub copied : (from : ForestLocal) → Contains locals from → from.rank ≡ local.buffers.spare.source → from.rank ≢ local.rank → local.buffers.spare.other ≡ from.blocks
   pub alone : local.buffers.spare.source ≡ local.rank → local.buffers.spare.other ≡ []

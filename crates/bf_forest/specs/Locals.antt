@@ -6,17 +6,23 @@ use Rattle.bf_stages.specs.Moves.{Hand}
 use Rattle.bf_ghost.specs.Strips.{StripValue}
 use Rattle.bf_msg.specs.declared.linked_block.LinkedBlock.{LinkedBlock}
 use Rattle.bf_msg.specs.declared.message.Message.{Message}
-use Rattle.bf_msg.specs.declared.message.Message.TheVariants.{Step as StepMessage, Snapshot as SnapshotMessage}
+use Rattle.bf_msg.specs.declared.message.Message.TheVariants.{Step as StepMessage, Snapshot as SnapshotMessage, Force, May, Merges}
 use Rattle.bf_forest.specs.declared.local.ForestLocal.{ForestLocal}
 
--- the strips of a message, and the part of a snapshot in it
+-- the strips of a message, and the part of a snapshot in it; the messages of a round are all of its kind
 abbrev pub strips_in : Message → List StripValue
 strips_in (StepMessage strips) = strips
 strips_in (SnapshotMessage part) = []
+strips_in (Force ids) = []
+strips_in (May ids) = []
+strips_in (Merges ids) = []
 
 abbrev pub part_in : Message → Option (List LinkedBlock)
 part_in (StepMessage strips) = None
 part_in (SnapshotMessage part) = part
+part_in (Force ids) = None
+part_in (May ids) = None
+part_in (Merges ids) = None
 
 -- a local but for what it has heard, and the local of that and of what it has heard
 abbrev pub view_in : ForestLocal → View LinkedBlock

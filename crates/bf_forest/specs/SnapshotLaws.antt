@@ -14,6 +14,7 @@ use Rattle.bf_id.specs.Id.{BlockId}
 use Rattle.bf_parts.specs.declared.side.Side.{Side}
 use Rattle.bf_parts.specs.Leaves.{part_of, side_at}
 use Rattle.bf_parts.specs.SnapshotRounds.{are_paired}
+use Rattle.bf_parts.specs.SideLaws.{predecessor_member}
 use Rattle.bf_parts.specs.Sides.{bare, gives}
 use Rattle.bf_program.specs.declared.epoch.Epoch.{Epoch}
 use Rattle.bf_program.specs.Lockstep.{next_locals}
@@ -39,6 +40,7 @@ use Rattle.bf_forest.specs.Setup.{case_of, every_setup_keeps_roots}
 use Rattle.bf_forest.specs.StageLaws.{rounds_are, stage_snapshot, time_end}
 use Rattle.bf_forest.specs.Stages.{forest_plan}
 use Rattle.bf_forest.specs.Staging.{forest_staging, Runs}
+use Rattle.bf_forest.specs.StripLaws.{member_contains}
 use Rattle.bf_forest.specs.VectorLaws.{parts_at}
 
 -- PEERS
@@ -122,6 +124,8 @@ module _ (c : Case) (epoch : Epoch) (round : ℕ) (owner home : BlockId → ℕ)
         time = ap (λ (s : Side LinkedBlock). s.time) spare;
         homes = ap (λ (s : Side LinkedBlock). s.homes) spare;
         own = ap (λ (s : Side LinkedBlock). s.own) spare ∙ sym (blocks_are rank);
+        source_member = subst (Contains epoch.members) (sym (ap (λ (s : Side LinkedBlock). s.source) spare))
+            (member_contains epoch.members source (predecessor_member epoch.members rank c.shift dealt.held.members_rise member));
         source = ap (λ (s : Side LinkedBlock). buddy_of epoch.members s.source c.shift) spare ∙ buddy_undoes epoch.members rank c.shift dealt.held.members_rise member;
         copied = λ from there source_is apart.
             let other = its from there in

@@ -68,20 +68,24 @@ pub fn send(
     }
 }
 
+// The strips of a message. One of another kind than the round's never comes, and is taken as an empty one.
 fn strips_in(alloc: Global, msg: Message) -> Items<Strip>
     ensures { result ≡ strips_in msg }
 {
     match msg {
         Message::Step(strips) => strips,
-        Message::Snapshot(_) => Items::new(alloc),
+        Message::Snapshot(_) | Message::Force(_) | Message::May(_) | Message::Merges(_) => {
+            Items::new(alloc)
+        }
     }
 }
 
+// The part of the new snapshot in a message, likewise.
 fn part_in(msg: Message) -> Option<Items<LinkedBlock>>
     ensures { result ≡ part_in msg }
 {
     match msg {
-        Message::Step(_) => None,
+        Message::Step(_) | Message::Force(_) | Message::May(_) | Message::Merges(_) => None,
         Message::Snapshot(part) => part,
     }
 }

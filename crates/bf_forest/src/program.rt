@@ -131,10 +131,12 @@ impl RankProgram for Forest {
         rank: u32,
         epoch: Epoch,
     ) -> Result<(), Memory> {
+        // what the rank has beside the agreed snapshot goes first, so that it never has more than two copies of its cells
+        local.blocks = Items::new(alloc);
+        local.heard = Items::new(alloc);
+        local.buffers.clear_spare();
         local.blocks = local.buffers.restore(alloc, epoch.members, setup.shift())?;
         local.rank = rank;
-        local.heard.clear();
-        local.buffers.clear_spare();
         Ok(())
     }
 

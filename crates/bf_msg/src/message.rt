@@ -4,6 +4,7 @@ ghost use Rattle.bf_msg.specs.Messages.{measured, sum_of_blocks, sum_of_strips};
 
 use crate::LinkedBlock;
 use bf_ghost::{Strip, sum_of};
+use bf_id::Id;
 use bf_items::Items;
 use bf_program::Measure;
 
@@ -15,6 +16,12 @@ pub enum Message {
     Step(Items<Strip>),
     /// The sender's part of the new snapshot, for its buddy alone.
     Snapshot(Option<Items<LinkedBlock>>),
+    /// Ids of those of the sender's leaves that are refined and that the receiver's leaves are linked with, rising.
+    Force(Items<Id>),
+    /// Ids of those of the sender's leaves of one level that may merge as far as their links tell, rising.
+    May(Items<Id>),
+    /// Ids of those of the sender's leaves of one level that merge, rising.
+    Merges(Items<Id>),
 }
 
 // The sum of the cells of blocks.
@@ -41,7 +48,7 @@ fn sum_of_strips(strips: &[Strip]) -> u64
 
 impl Message {
     /// How many whole blocks the message has, modulo 2^32, and the sum of all cells and values in it, modulo 2^64. What is
-    /// empty has 0 of both.
+    /// empty, and a list of ids, has 0 of both.
     #[tactic(auto, unfolding(crate::specs::Messages::measured))]
     pub fn measure(&self) -> Measure
         ensures { result ≡ measured self.now }
@@ -56,6 +63,9 @@ impl Message {
                 sum: sum_of_blocks(part.as_slice()),
             },
             Message::Snapshot(None) => Measure { blocks: 0, sum: 0 },
+            Message::Force(_) | Message::May(_) | Message::Merges(_) => {
+                Measure { blocks: 0, sum: 0 }
+            }
         }
     }
 }
