@@ -1,0 +1,10 @@
+pub mod HeardLemmas
+pub mod NeighborLemmas
+pub mod ForceLemmas
+pub mod OctetLemmas
+pub mod LevelLemmas
+pub mod RoundLemmas
+pub mod FirstLemmas
+pub mod ReachLemmas
+pub mod TellLemmas
+pub mod ViewLemmas

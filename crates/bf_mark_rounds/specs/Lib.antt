@@ -1,0 +1,6 @@
+-- Shares of the marks of all leaves, and the rounds in which ranks tell each other of them.
+pub mod Neighbors
+pub mod Shares
+pub mod Plays
+pub mod FirstRound
+pub mod Views
