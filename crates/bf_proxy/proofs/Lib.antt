@@ -1,0 +1,4 @@
+pub mod JoinLemmas
+pub mod MakeLemmas
+pub mod HomeLemmas
+pub mod LawLemmas
