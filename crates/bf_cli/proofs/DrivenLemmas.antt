@@ -2,15 +2,14 @@
 use Rattle.std.proofs.Common.{◌≡◌, ℕ, List, [], map, inl, inr, ap, sym, subst, ◌∙◌}
 use Rattle.std.specs.Prelude.{◌⊎◌, IsPermutation, IsTrue, Some, is_some}
 use Rattle.std.specs.List.{list_any}
-use Rattle.std.specs.List.Sorted.{IsNonDecreasingBy}
 use Rattle.std.proofs.lemmas.Simd.{map-map}
 use Rattle.bf_case.specs.MapText.{map_text}
 use Rattle.bf_case.specs.Model.{model}
 use Rattle.bf_case.specs.declared.case.Case.{Case}
+use Rattle.bf_case.specs.Case.{IsValid}
 use Rattle.bf_block.specs.Block.{BlockValue, leaf_of}
-use Rattle.bf_forest.specs.Cases.{KeepsRoots}
 use Rattle.bf_forest.specs.declared.setup.Setup.{Setup}
-use Rattle.bf_forest.specs.Setup.{case_of, every_setup_keeps_roots}
+use Rattle.bf_forest.specs.Setup.{case_of, every_setup_is_valid}
 use Rattle.bf_core.specs.declared.event.Event.{Event}
 use Rattle.bf_core.specs.declared.outcome.Outcome.TheVariants.{Finished, Lost, Memory}
 use Rattle.bf_core.specs.Legal.{is_memory}
@@ -22,7 +21,7 @@ use Rattle.bf_forest.specs.Goods.{IsGood}
 use Rattle.bf_forest.specs.Leaves.{AreLeaves}
 use Rattle.bf_forest.specs.Meanings.{forest}
 use Rattle.bf_driven.specs.Losses.{EndsByDeaths}
-use Rattle.bf_driven.specs.Parcels.{blocks_of}
+use Rattle.bf_driven.specs.Parcels.{blocks_of, RiseById}
 use Rattle.bf_cli.specs.Answers.{model_text}
 use Rattle.bf_cli.specs.Driven.{ForestWorld, HasRun, outcome_of}
 
@@ -33,20 +32,20 @@ HasLeaves = (setup : Setup) (journal : List Event) → IsTrue (is_journal forest
     → AreLeaves (model (case_of setup) (case_of setup).steps) (blocks_of (run_after forest setup journal).parcels)
 
 abbrev pub AreInOrder : Type 0
-AreInOrder = (c : Case) (time : ℕ) (blocks sorted : List BlockValue) → KeepsRoots c → AreLeaves (model c time) blocks
-    → IsPermutation blocks sorted → IsNonDecreasingBy (λ (block : BlockValue). block.id.root) sorted
+AreInOrder = (c : Case) (time : ℕ) (blocks sorted : List BlockValue) → IsValid c → AreLeaves (model c time) blocks
+    → IsPermutation blocks sorted → RiseById sorted
     → map leaf_of sorted ≡ model c time
 
 pub finished_text : {X : Type 0} (block_of : X → BlockValue) (world : ForestWorld) (leaves : List X) → HasLeaves → AreInOrder → IsView forest world → outcome_of world ≡ Some Finished
     → IsPermutation (blocks_of world.parcels) (map block_of leaves)
-    → IsNonDecreasingBy (λ (block : BlockValue). block.id.root) (map block_of leaves)
+    → RiseById (map block_of leaves)
     → map_text (map (λ x. leaf_of (block_of x)) leaves) ≡ model_text (case_of world.setup)
 finished_text block_of world leaves has order is finished same rising =
     let c = case_of world.setup in
     let its : AreLeaves (model c c.steps) (blocks_of world.parcels) =
     subst (λ l. AreLeaves (model c c.steps) (blocks_of l)) (sym is.parcels) (has world.setup world.journal is.legal finished) in
     ap map_text (sym (map-map leaf_of block_of leaves)
-    ∙ order c c.steps (blocks_of world.parcels) (map block_of leaves) (every_setup_keeps_roots world.setup) its same rising)
+    ∙ order c c.steps (blocks_of world.parcels) (map block_of leaves) (every_setup_is_valid world.setup) its same rising)
 
 -- what is known of the end of every complete run
 abbrev pub HasEnd : Type 0

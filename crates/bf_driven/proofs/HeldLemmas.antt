@@ -40,10 +40,10 @@ use Rattle.bf_forest.specs.declared.local.ForestLocal.{ForestLocal}
 use Rattle.bf_forest.specs.declared.setup.Setup.{Setup}
 use Rattle.bf_forest.specs.Goods.{AreDealt, HasParts, IsGood, local_at}
 use Rattle.bf_forest.specs.Meanings.{forest}
-use Rattle.bf_forest.specs.ModelBlocks.{blocks_at}
-use Rattle.bf_forest.specs.Setup.{case_of, every_setup_keeps_roots}
-use Rattle.bf_forest.specs.ForestLaws.{whole_span}
-use Rattle.bf_forest.specs.StageLaws.{rounds_are, time_end}
+use Rattle.bf_block.specs.declared.point.Point.{Point}
+use Rattle.bf_forest.specs.ModelBlocks.{blocks_at, blocks_on}
+use Rattle.bf_forest.specs.Setup.{case_of, every_setup_is_valid}
+use Rattle.bf_forest.specs.StageLaws.{point_end, rounds_are}
 use Rattle.bf_forest.specs.Stages.{forest_plan}
 use Rattle.bf_forest.specs.Staging.{Runs}
 use Rattle.bf_forest.specs.SnapshotLaws.{all_have_new}
@@ -65,7 +65,7 @@ its_agreed setup epoch round owner home locals rank local dealt its =
     let c : Case = case_of setup in
     let at = told_local (local_at c epoch round owner home) epoch.members rank local (subst (λ (ls : List ForestLocal). local_of epoch.members ls rank ≡ Some local) dealt.are its) in
     subst (λ (l : ForestLocal). IsSide setup epoch.time epoch.homes home rank l.buffers.active) (sym at.1)
-    (parts_at c epoch.time epoch.homes home rank (every_setup_keeps_roots setup) dealt.held.homes_rise (dealt.held.among rank at.0), refl)
+    (parts_at c epoch.time epoch.homes home rank (every_setup_is_valid setup) dealt.held.homes_rise (dealt.held.among rank at.0), refl)
 
 pub its_new : (setup : Setup) (epoch : Epoch) (owner home : BlockId → ℕ) (locals : List ForestLocal) (rank : ℕ) (local : ForestLocal) → Runs (case_of setup) epoch
     → AreDealt (case_of setup) epoch (rounds_of forest_plan epoch) owner home locals → local_of epoch.members locals rank ≡ Some local
@@ -258,5 +258,5 @@ held_finished setup run owner home view runs dealt finished has =
 pub owned_last : (setup : Setup) (epoch : Epoch) (owner home : BlockId → ℕ) (locals : List ForestLocal) → Runs (case_of setup) epoch
     → AreDealt (case_of setup) epoch (rounds_of forest_plan epoch) owner home locals → AreAmong epoch.members (blocks_at (case_of setup) epoch.target) owner
 owned_last setup epoch owner home locals runs dealt =
-    subst (λ time. AreAmong epoch.members (blocks_at (case_of setup) time) owner)
-    (time_end epoch (rounds_of forest_plan epoch) (whole_span setup epoch runs) (omega (arith, rounds_are epoch))) dealt.owned
+    subst (λ (p : Point). AreAmong epoch.members (blocks_on (case_of setup) p) owner)
+    (point_end (case_of setup) epoch (rounds_of forest_plan epoch) (omega (arith, rounds_are epoch))) dealt.owned

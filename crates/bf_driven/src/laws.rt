@@ -1,8 +1,8 @@
 //! What comes of a case that is run by its ranks, each law the contract of a call that does nothing.
 ghost use Rattle.std.specs.Prelude.{◌≡◌, ◌≤◌, ◌⊎◌, ℕ, IsTrue, IsPermutation, List, [], Some, None, is_some, map};
 ghost use Rattle.std.specs.List.{flat_map, list_any};
-ghost use Rattle.std.specs.List.Sorted.{IsNonDecreasingBy};
 ghost use Rattle.bf_case.specs.declared.case.Case.{Case};
+ghost use Rattle.bf_case.specs.Case.{IsValid};
 ghost use Rattle.bf_case.specs.Model.{model};
 ghost use Rattle.bf_core.specs.declared.event.Event.{Event};
 ghost use Rattle.bf_core.specs.declared.outcome.Outcome.TheVariants.{Finished, Memory};
@@ -15,7 +15,6 @@ ghost use Rattle.bf_id.specs.Cube.{Voxel};
 ghost use Rattle.bf_msg.specs.declared.linked_block.LinkedBlock.{LinkedBlock};
 ghost use Rattle.bf_msg.specs.declared.message.Message.{Message};
 ghost use Rattle.bf_block.specs.Block.{BlockValue, leaf_of};
-ghost use Rattle.bf_forest.specs.Cases.{KeepsRoots};
 ghost use Rattle.bf_forest.specs.declared.local.ForestLocal.{ForestLocal};
 ghost use Rattle.bf_forest.specs.declared.setup.Setup.{Setup};
 ghost use Rattle.bf_forest.specs.Setup.{case_of};
@@ -24,7 +23,7 @@ ghost use Rattle.bf_forest.specs.Meanings.{forest, pieces};
 ghost use Rattle.bf_rank.specs.Ranks.{last_decided};
 ghost use Rattle.bf_driven.specs.Held.{AllHold, AllHoldUntilCommit, MustLeave, HadMemory};
 ghost use Rattle.bf_driven.specs.Losses.{EndsByDeaths};
-ghost use Rattle.bf_driven.specs.Parcels.{blocks_of};
+ghost use Rattle.bf_driven.specs.Parcels.{blocks_of, RiseById};
 
 use bf_forest::Forest;
 use bf_forest::laws::{
@@ -119,10 +118,10 @@ pub fn a_run_is_lost_exactly_where_both_holders_of_a_block_died()
     a_run_is_lost_exactly_where_both_holders_died::<Forest>();
 }
 
-/// Blocks that are the leaves of a map of the model, put in rising order of their roots, are the map.
+/// Blocks that are the leaves of a map of the model, put in rising order of their ids, are the map.
 pub fn leaves_in_order_are_the_map()
-    ensures { (c : Case) (time : ℕ) (blocks sorted : List BlockValue) → KeepsRoots c → AreLeaves (model c time) blocks
-        → IsPermutation blocks sorted → IsNonDecreasingBy (λ (block : BlockValue). block.id.root) sorted
+    ensures { (c : Case) (time : ℕ) (blocks sorted : List BlockValue) → IsValid c → AreLeaves (model c time) blocks
+        → IsPermutation blocks sorted → RiseById sorted
         → map leaf_of sorted ≡ model c time }
 {}
 

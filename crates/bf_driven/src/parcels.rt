@@ -1,8 +1,6 @@
 ghost use Rattle.std.specs.Prelude.{◌≡◌, ◌++◌, length, map, IfOk, OnOk, IsPermutation};
-ghost use Rattle.std.specs.List.Sorted.{IsNonDecreasingBy};
-ghost use Rattle.bf_block.specs.Block.{BlockValue};
 ghost use Rattle.bf_forest.specs.Leaves.{bare_blocks};
-ghost use Rattle.bf_driven.specs.Parcels.{blocks_of};
+ghost use Rattle.bf_driven.specs.Parcels.{blocks_of, RiseById};
 
 use bf_block::{Block, Memory};
 use bf_items::Items;
@@ -30,19 +28,19 @@ fn blocks_of(alloc: Global, parcels: &[(u32, Items<LinkedBlock>)]) -> Result<Vec
     Ok(blocks)
 }
 
-// Puts blocks in rising order of their roots.
+// Puts blocks in rising order of their ids.
 fn sort(blocks: &mut [&Block])
     ensures same { IsPermutation (map (λ block. block.now) blocks.old) (map (λ block. block.now) blocks.new) }
     ensures len { length blocks.new ≡ length blocks.old }
-    ensures rising { IsNonDecreasingBy (λ (block : BlockValue). block.id.root) (map (λ block. block.now) blocks.new) }
+    ensures rising { RiseById (map (λ block. block.now) blocks.new) }
 {
-    blocks.sort_unstable_by_key(|block| block.id().root());
+    blocks.sort_unstable_by_key(|block| block.id());
 }
 
-/// The blocks of all parcels, by rising root. No cell is copied.
+/// The blocks of all parcels, by rising id. No cell is copied.
 pub fn leaves(alloc: Global, parcels: &[(u32, Items<LinkedBlock>)]) -> Result<Vec<&Block>, Memory>
     ensures same { IfOk result (λ blocks. IsPermutation (blocks_of parcels.now) (map (λ block. block.now) blocks.items)) }
-    ensures rising { IfOk result (λ blocks. IsNonDecreasingBy (λ (block : BlockValue). block.id.root) (map (λ block. block.now) blocks.items)) }
+    ensures rising { IfOk result (λ blocks. RiseById (map (λ block. block.now) blocks.items)) }
 {
     let mut blocks = blocks_of(alloc, parcels)?;
     sort(blocks.as_mut_slice());

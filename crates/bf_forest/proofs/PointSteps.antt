@@ -9,8 +9,10 @@ use Rattle.bf_program.specs.declared.epoch.Epoch.{Epoch}
 use Rattle.bf_program.specs.Points.{IsFirst, IsSending, IsReceiving, IsFinishing, IsRestoring}
 use Rattle.bf_id.specs.Id.{BlockId}
 use Rattle.bf_case.specs.declared.case.Case.{Case}
+use Rattle.bf_block.specs.declared.point.Point.{Point}
+use Rattle.bf_block.specs.Block.{before_regrid}
 use Rattle.bf_forest.specs.declared.setup.Setup.{Setup}
-use Rattle.bf_forest.specs.Setup.{case_of, every_setup_keeps_roots}
+use Rattle.bf_forest.specs.Setup.{case_of, every_setup_is_valid}
 use Rattle.bf_ghost.specs.Strips.{StripValue}
 use Rattle.bf_parts.specs.declared.side.Side.{Side}
 use Rattle.bf_parts.specs.Leaves.{AreAmong, part_of, side_at}
@@ -30,7 +32,7 @@ use Rattle.bf_forest.specs.BlockLaws.{block_is, part_each, part_inside, part_ord
 use Rattle.bf_forest.specs.ForestLaws.{lawful_forest, staged, whole_span, ends_within}
 use Rattle.bf_forest.specs.Goods.{IsGood}
 use Rattle.bf_forest.specs.Meanings.{forest, pieces}
-use Rattle.bf_forest.specs.ModelBlocks.{blocks_at}
+use Rattle.bf_forest.specs.ModelBlocks.{blocks_at, blocks_on, ready}
 use Rattle.bf_forest.specs.Ready.{AreOrdered, CanFinish, CanSend, CanStep, AreLinkedInside, IsReady}
 use Rattle.bf_forest.specs.Rounds.{play_of, strips_to}
 use Rattle.bf_forest.specs.RoundLaws.{has_stages}
@@ -61,7 +63,7 @@ knows_finishing setup epoch round local at = finishing_told forest (telling_of f
 
 -- a member that sends in a step's round can tell what lies beside its blocks
 sending_is : (setup : Setup) (epoch : Epoch) (round to time : ℕ) (local : ForestLocal) (at : IsSending forest IsGood setup epoch round to local) → stage_of forest_plan epoch round ≡ Step time
-    → local.blocks ≡ part_of (blocks_at (case_of setup) time) (knows_sending setup epoch round to local at).world.owner (knows_sending setup epoch round to local at).rank
+    → local.blocks ≡ part_of (blocks_on (case_of setup) (ready (case_of setup) time)) (knows_sending setup epoch round to local at).world.owner (knows_sending setup epoch round to local at).rank
 unfolding stage_of
 sending_is setup epoch round to time local at stage =
     let told = knows_sending setup epoch round to local at in
@@ -74,7 +76,7 @@ sending_ready setup epoch round to local at = by (stage_of forest_plan epoch rou
     by : (stage : Stage) → stage_of forest_plan epoch round ≡ stage → CanSend stage local
     by (Step time) stage =
         let told = knows_sending setup epoch round to local at in
-        subst (All AreLinkedInside) (sym (sending_is setup epoch round to time local at stage)) (part_inside (case_of setup) time told.world.owner told.rank (every_setup_keeps_roots setup))
+        subst (All AreLinkedInside) (sym (sending_is setup epoch round to time local at stage)) (part_inside (case_of setup) (ready (case_of setup) time) told.world.owner told.rank (every_setup_is_valid setup))
     by Snapshot stage = tt
     by Over stage = tt
 
@@ -98,11 +100,11 @@ abbrev AreAmongHomes : Side LinkedBlock → Type 0
 AreAmongHomes side = All (IsOwnedAmong side.homes) side.own × All (IsOwnedAmong side.homes) side.other
 
 side_among : (c : Case) (time : ℕ) (homes : List ℕ) (home : BlockId → ℕ) (rank : ℕ) → AreAmong homes (blocks_at c time) home → AreAmongHomes (side_at time homes c.shift (blocks_at c time) home rank)
-side_among c time homes home rank housed = (part_owned c time homes home rank housed, at (predecessor_of homes rank c.shift == rank))
+side_among c time homes home rank housed = (part_owned c (before_regrid time) homes home rank housed, at (predecessor_of homes rank c.shift == rank))
   where
     at : (b : Bool) → All (IsOwnedAmong homes) (cond b [] (part_of (blocks_at c time) home (predecessor_of homes rank c.shift)))
     at true = All-nil (IsOwnedAmong homes)
-    at false = part_owned c time homes home (predecessor_of homes rank c.shift) housed
+    at false = part_owned c (before_regrid time) homes home (predecessor_of homes rank c.shift) housed
 
 restoring_among : (setup : Setup) (epoch : Epoch) (rank : ℕ) (local : ForestLocal) → IsRestoring forest IsGood setup epoch rank local → AreAmongHomes local.buffers.active
 unfolding IsGood
@@ -118,21 +120,22 @@ pub other_among : (setup : Setup) (epoch : Epoch) (rank : ℕ) (local : ForestLo
 other_among setup epoch rank local point = (restoring_among setup epoch rank local point).1
 
 -- a rank that has heard all its neighbours of a time is ready to step its blocks
-pub part_ready : (setup : Setup) (time : ℕ) (owner : BlockId → ℕ) (members : List ℕ) (rank : ℕ) (local : ForestLocal) → AreAmong members (blocks_at (case_of setup) time) owner
-    → time < (case_of setup).steps → local.rank ≡ rank → local.blocks ≡ part_of (blocks_at (case_of setup) time) owner rank
-    → local.heard ≡ heard (case_of setup) time owner members rank → IsReady (case_of setup) time local
+pub part_ready : (setup : Setup) (time : ℕ) (owner : BlockId → ℕ) (members : List ℕ) (rank : ℕ) (local : ForestLocal) → AreAmong members (blocks_on (case_of setup) (ready (case_of setup) time)) owner
+    → time < (case_of setup).steps → local.rank ≡ rank → local.blocks ≡ part_of (blocks_on (case_of setup) (ready (case_of setup) time)) owner rank
+    → local.heard ≡ heard (case_of setup) (ready (case_of setup) time) owner members rank → IsReady (case_of setup) time local
 part_ready setup time owner members rank local owned more here own told =
     let c : Case = case_of setup in
-    let runs = every_setup_keeps_roots setup in
-    let part : List LinkedBlock = part_of (blocks_at c time) owner rank in
-    let known : all_told c time owner members rank ≡ local.heard ++ strips_to local.rank local.blocks = rw (here, own, told) refl in
+    let p : Point = ready c time in
+    let valid = every_setup_is_valid setup in
+    let part : List LinkedBlock = part_of (blocks_on c p) owner rank in
+    let known : all_told c p owner members rank ≡ local.heard ++ strips_to local.rank local.blocks = rw (here, own, told) refl in
     record {
-      tells = subst (All AreLinkedInside) (sym own) (part_inside c time owner rank runs);
-      ordered = subst AreOrdered (sym own) (part_ordered c time owner rank runs);
+      tells = subst (All AreLinkedInside) (sym own) (part_inside c p owner rank valid);
+      ordered = subst AreOrdered (sym own) (part_ordered c p owner rank valid);
       told = subst (All (CanStep c time (local.heard ++ strips_to local.rank local.blocks))) (sym own)
           (subst (λ (strips : List StripValue). All (CanStep c time strips) part) known
-          (part_each (CanStep c time (all_told c time owner members rank)) c time owner rank
-          (λ i has its. record { is = block_is c time i runs has; told = strips_are_all c time runs owner members rank owned i has its })));
+          (part_each (CanStep c time (all_told c p owner members rank)) c p owner rank
+          (λ i has its. record { is = block_is c p i valid has; told = strips_are_all c p valid owner members rank owned i has its })));
       more = more;
     }
 
@@ -146,7 +149,7 @@ finishing_is setup epoch round time local at stage =
     told.is ∙ ap (λ (s : Stage). (course_in (case_of setup) epoch s told.world).heard told.rank ((course_in (case_of setup) epoch s told.world).peers told.rank)) stage
 
 finishing_owned : (setup : Setup) (epoch : Epoch) (round time : ℕ) (local : ForestLocal) (at : IsFinishing forest IsGood setup epoch round local) → stage_of forest_plan epoch round ≡ Step time
-    → AreAmong epoch.members (blocks_at (case_of setup) time) (knows_finishing setup epoch round local at).world.owner
+    → AreAmong epoch.members (blocks_on (case_of setup) (ready (case_of setup) time)) (knows_finishing setup epoch round local at).world.owner
 unfolding stage_of
 finishing_owned setup epoch round time local at stage =
     let told = knows_finishing setup epoch round local at in

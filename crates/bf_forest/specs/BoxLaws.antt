@@ -11,17 +11,17 @@ use Rattle.bf_id.specs.Cube.{Voxel, holds}
 use Rattle.bf_id.specs.Id.{BlockId}
 use Rattle.bf_id.specs.Shape.{InDomain, root_edge}
 use Rattle.bf_case.specs.declared.case.Case.{Case}
+use Rattle.bf_case.specs.Case.{IsValid}
+use Rattle.bf_block.specs.declared.point.Point.{Point}
 use Rattle.bf_forest.specs.declared.setup.Setup.{Setup}
 use Rattle.bf_msg.specs.LinkedBlocks.{linked_kind}
-use Rattle.bf_forest.specs.Cases.{KeepsRoots}
-use Rattle.bf_forest.specs.Setup.{case_of, every_setup_keeps_roots}
+use Rattle.bf_forest.specs.Setup.{case_of, every_setup_is_valid}
 use Rattle.bf_stages.specs.Stages.{HasPieces}
 use Rattle.bf_forest.specs.declared.stage.Stage.{Stage}
-use Rattle.bf_forest.specs.declared.stage.Stage.TheVariants.{Step, Snapshot, Over}
 use Rattle.bf_forest.specs.BlockLaws.{one_holds}
 use Rattle.bf_forest.specs.Meanings.{forest, pieces, box_in, in_domain}
-use Rattle.bf_forest.specs.ModelBlocks.{blocks_at}
-use Rattle.bf_forest.specs.Staging.{leaves_in, forest_staging}
+use Rattle.bf_forest.specs.ModelBlocks.{blocks_on}
+use Rattle.bf_forest.specs.Staging.{leaves_in, point_in, forest_staging}
 
 in_domain_tells : (shape : Shape) (v : Voxel) → in_domain shape v ≡ true → InDomain shape v
 in_domain_tells shape v passes =
@@ -32,10 +32,10 @@ in_domain_tells shape v passes =
     below : (a b : ℕ) → nat_lt a b ≡ true → a < b
     below a b is = grind (arith, nat_tests)
 
-leaf_holds : (c : Case) (time : ℕ) (owner : BlockId → ℕ) (unit : Voxel) → KeepsRoots c → in_domain c.roots unit ≡ true
-    → count_by (λ key. holds (box_in ((blocks_at c time).item owner key)) unit) (blocks_at c time).keys ≡ 1
-unfolding blocks_at
-leaf_holds c time owner unit runs inside = one_holds c time unit runs (in_domain_tells c.roots unit inside)
+leaf_holds : (c : Case) (p : Point) (owner : BlockId → ℕ) (unit : Voxel) → IsValid c → in_domain c.roots unit ≡ true
+    → count_by (λ key. holds (box_in ((blocks_on c p).item owner key)) unit) (blocks_on c p).keys ≡ 1
+unfolding blocks_on
+leaf_holds c p owner unit valid inside = one_holds c p unit valid (in_domain_tells c.roots unit inside)
 
 pub boxes : (setup : Setup) → HasPieces forest forest_staging linked_kind setup pieces box_in (λ local. [])
 boxes setup = record {
@@ -53,6 +53,4 @@ boxes setup = record {
   where
     at : (stage : Stage) (epoch : Epoch) (owner : BlockId → ℕ) (unit : Voxel) → in_domain (case_of setup).roots unit ≡ true
         → count_by (λ key. holds (box_in ((leaves_in (case_of setup) epoch stage).item owner key)) unit) (leaves_in (case_of setup) epoch stage).keys ≡ 1
-    at (Step time) epoch owner unit within = leaf_holds (case_of setup) time owner unit (every_setup_keeps_roots setup) within
-    at Snapshot epoch owner unit within = leaf_holds (case_of setup) epoch.target owner unit (every_setup_keeps_roots setup) within
-    at Over epoch owner unit within = leaf_holds (case_of setup) epoch.target owner unit (every_setup_keeps_roots setup) within
+    at stage epoch owner unit within = leaf_holds (case_of setup) (point_in (case_of setup) epoch stage) owner unit (every_setup_is_valid setup) within

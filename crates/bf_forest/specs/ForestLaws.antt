@@ -8,11 +8,12 @@ use Rattle.bf_program.specs.declared.epoch.Epoch.{Epoch}
 use Rattle.bf_program.specs.Epochs.{target_of}
 use Rattle.bf_program.specs.Laws.{Laws, KeepsLimits}
 use Rattle.bf_case.specs.declared.case.Case.{Case}
+use Rattle.bf_block.specs.Block.{before_regrid}
 use Rattle.bf_case.specs.Case.{IsScheduled, IsDeath, IsValid}
 use Rattle.bf_forest.specs.declared.setup.Setup.{Setup}
 use Rattle.bf_msg.specs.declared.linked_block.LinkedBlock.{LinkedBlock}
 use Rattle.bf_msg.specs.LinkedBlocks.{linked_kind}
-use Rattle.bf_forest.specs.Setup.{case_of, every_setup_keeps_roots}
+use Rattle.bf_forest.specs.Setup.{case_of, every_setup_is_valid}
 use Rattle.bf_parts.specs.Leaves.{part_of, is_filled, side_at}
 use Rattle.bf_parts.specs.Sides.{bare}
 use Rattle.bf_parts.specs.Views.{View}
@@ -26,13 +27,13 @@ use Rattle.bf_forest.specs.BlockLaws.{are_leaves, first_owned, first_filled}
 use Rattle.bf_forest.specs.Goods.{IsGood}
 use Rattle.bf_forest.specs.Meanings.{forest, pieces, box_in, opened}
 use Rattle.bf_forest.specs.Locals.{view_in, local_with, step_lens}
-use Rattle.bf_forest.specs.ModelBlocks.{blocks_at, first_home}
+use Rattle.bf_forest.specs.ModelBlocks.{blocks_at, blocks_on, first_home}
 use Rattle.bf_forest.specs.Rounds.{step_play, play_of}
 use Rattle.bf_forest.specs.RoundLaws.{has_stages, is_short}
 use Rattle.bf_stages.specs.Plans.{span, rounds_of, stages_of, stage_of}
 use Rattle.bf_stages.proofs.PlanLemmas.{all_stages, first_stage, span_few, span_whole}
 use Rattle.bf_forest.specs.BoxLaws.{boxes}
-use Rattle.bf_forest.specs.StageLaws.{rounds_are}
+use Rattle.bf_forest.specs.StageLaws.{ready_rests, rounds_are}
 use Rattle.bf_forest.specs.Stages.{forest_plan}
 use Rattle.bf_forest.specs.Staging.{is_made, leaves_in, Runs, forest_staging}
 use Rattle.bf_forest.specs.Starts.{starts}
@@ -61,9 +62,11 @@ sides setup = record {
     by epoch Over = record { out = λ local to. refl; hear = λ local peer msg. refl; finish = λ local. refl }
 
 -- an epoch begins with the leaves of its time
-begins_with : (c : Case) (epoch : Epoch) → epoch.time + span epoch ≡ epoch.target → leaves_in c epoch (head_of (stages_of forest_plan epoch) Over) ≡ blocks_at c epoch.time
-begins_with c epoch whole =
-    first_stage forest_plan (λ stage. leaves_in c epoch stage ≡ blocks_at c epoch.time) Step (λ time other. refl) epoch.time (span epoch) refl
+begins_with : (setup : Setup) (epoch : Epoch) → epoch.time + span epoch ≡ epoch.target
+    → leaves_in (case_of setup) epoch (head_of (stages_of forest_plan epoch) Over) ≡ blocks_at (case_of setup) epoch.time
+begins_with setup epoch whole =
+    let c : Case = case_of setup in
+    first_stage forest_plan (λ stage. leaves_in c epoch stage ≡ blocks_at c epoch.time) Step (λ time other. refl) epoch.time (span epoch) (ap (blocks_on c) (ready_rests setup epoch.time))
     (λ none. ap (blocks_at c) (let e : epoch.target ≡ epoch.time = omega (arith, whole, none) in e))
 
 -- the ranks' locals at the opening
@@ -90,20 +93,20 @@ ends_within setup epoch runs = at epoch.restored epoch.time epoch.target (case_o
 pub spans : (setup : Setup) → HasSpans forest forest_staging linked_kind setup
 spans setup =
     let c : Case = case_of setup in
-    let runs = every_setup_keeps_roots setup in
+    let valid : IsValid c = every_setup_is_valid setup in
     record {
       first_runs = record { begins = omega arith; ends = refl };
       commit_runs = λ epoch runs goes_on. record { begins = omega (arith, goes_on); ends = refl };
       restore_runs = λ epoch lives runs. record { begins = runs.begins; ends = refl };
       some_stage = λ epoch runs. let many = rounds_are epoch in omega (arith, many);
-      are = λ epoch _. are_leaves c epoch.time runs;
-      begins = λ epoch runs. begins_with c epoch (whole_span setup epoch runs);
+      are = λ epoch runs. are_leaves c (before_regrid epoch.time) valid;
+      begins = λ epoch runs. begins_with setup epoch (whole_span setup epoch runs);
       ends = λ epoch runs. refl;
       also = λ epoch owner runs owned. tt;
       fresh = λ epoch owner rank runs. refl;
       keep = λ epoch view owner rank runs goes_on. refl;
       home_of = first_home c;
-      housed = first_owned c runs.valid;
+      housed = first_owned c valid;
       opening = map_alike (opened c) _ (range_with_len 0 c.ranks) (λ rank. opened_is c rank);
       laid = filter_agree (starts c) (is_filled (blocks_at c 0) (first_home c)) (first_filled c) (range_with_len 0 c.ranks);
     }
@@ -127,7 +130,7 @@ few_rounds epoch = let many = rounds_are epoch in let few = span_few epoch in om
 
 limits : (setup : Setup) → KeepsLimits forest setup
 limits setup =
-    let valid : IsValid (case_of setup) = (every_setup_keeps_roots setup).valid in
+    let valid : IsValid (case_of setup) = every_setup_is_valid setup in
     let scheduled : IsScheduled (case_of setup) = valid.scheduled in
     record {
       some_rank = scheduled.some_ranks;

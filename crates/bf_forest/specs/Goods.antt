@@ -10,6 +10,8 @@ use Rattle.bf_id.specs.Walk.{IsBefore}
 use Rattle.bf_case.specs.declared.case.Case.{Case}
 use Rattle.bf_case.specs.Map.{ids_of}
 use Rattle.bf_case.specs.Model.{model}
+use Rattle.bf_block.specs.declared.point.Point.{Point}
+use Rattle.bf_block.specs.Block.{before_regrid, map_at}
 use Rattle.bf_forest.specs.declared.setup.Setup.{Setup}
 use Rattle.bf_links.specs.declared.link.Link.{Link}
 use Rattle.bf_links.specs.Links.{IsLinkOf}
@@ -22,21 +24,21 @@ use Rattle.bf_stages.specs.Stages.{telling_of}
 use Rattle.bf_msg.specs.declared.linked_block.LinkedBlock.{LinkedBlock}
 use Rattle.bf_forest.specs.declared.local.ForestLocal.{ForestLocal}
 use Rattle.bf_forest.specs.Meanings.{forest}
-use Rattle.bf_forest.specs.ModelBlocks.{blocks_at, IsBlockAt}
+use Rattle.bf_forest.specs.ModelBlocks.{blocks_at, blocks_on, IsBlockOn}
 use Rattle.bf_stages.specs.Plans.{rounds_of}
-use Rattle.bf_forest.specs.Stages.{forest_plan, time_at}
-use Rattle.bf_forest.specs.Staging.{forest_staging}
+use Rattle.bf_forest.specs.Stages.{forest_plan}
+use Rattle.bf_forest.specs.Staging.{forest_staging, point_at}
 
 -- the members' locals at the beginning of a round: those that are told by who owns which block and who has which at home
 unfoldable pub IsGood : Setup → Epoch → (round : ℕ) → List ForestLocal → Type 0
 IsGood setup epoch round locals = IsTold (telling_of forest forest_staging) setup epoch round locals
 
--- a rank's local: its blocks of the model at the round's time, by rising id, each linked with the leaves that touch it and their owners; its side of the
+-- a rank's local: its blocks of the model at the round's point, by rising id, each linked with the leaves that touch it and their owners; its side of the
 -- agreed snapshot, whose links name homes, and once all rounds are done its side of the new one
 abbrev pub local_at : Case → Epoch → (round : ℕ) → (owner home : BlockId → ℕ) → (rank : ℕ) → ForestLocal
 local_at c epoch round owner home rank = record {
   rank = rank;
-  blocks = part_of (blocks_at c (time_at epoch round)) owner rank;
+  blocks = part_of (blocks_on c (point_at c epoch round)) owner rank;
   heard = [];
   buffers = record {
     active = side_at epoch.time epoch.homes c.shift (blocks_at c epoch.time) home rank;
@@ -47,32 +49,32 @@ local_at c epoch round owner home rank = record {
 -- the model's ids rise, each leaf has an owner among the members, and each of the agreed snapshot its home, of which or of whose buddy some member goes on; and
 -- so are the locals
 pub record AreDealt (c : Case) (epoch : Epoch) (round : ℕ) (owner home : BlockId → ℕ) (locals : List ForestLocal) : Type 0 where
-  pub rising : (time : ℕ) → AllPairs IsBefore (ids_of (model c time))
-  pub owned : AreAmong epoch.members (blocks_at c (time_at epoch round)) owner
+  pub rising : (p : Point) → AllPairs IsBefore (ids_of (map_at c p))
+  pub owned : AreAmong epoch.members (blocks_on c (point_at c epoch round)) owner
   pub housed : AreAmong epoch.homes (blocks_at c epoch.time) home
   pub held : IsHeld (is_filled (blocks_at c epoch.time) home) c.shift epoch.homes epoch.members
   pub are : locals ≡ map (local_at c epoch round owner home) epoch.members
 
--- a block of a rank at a time: it is a leaf of the model with the model's cells, and its links are exactly to the leaves that touch it, each with its owner
-pub record IsLinkedBlock (c : Case) (time : ℕ) (owner : BlockId → ℕ) (rank : ℕ) (b : LinkedBlock) : Type 0 where
-  pub is : IsBlockAt c time b.block
-  pub leaf : Contains (ids_of (model c time)) b.block.id
+-- a block of a rank at a point: it is a leaf of the model with the model's cells, and its links are exactly to the leaves that touch it, each with its owner
+pub record IsLinkedBlock (c : Case) (p : Point) (owner : BlockId → ℕ) (rank : ℕ) (b : LinkedBlock) : Type 0 where
+  pub is : IsBlockOn c p b.block
+  pub leaf : Contains (ids_of (map_at c p)) b.block.id
   pub owned : owner b.block.id ≡ rank
-  pub links : (link : Link) → Contains b.links link ↔ IsLinkOf c.roots (ids_of (model c time)) owner b.block.id link
+  pub links : (link : Link) → Contains b.links link ↔ IsLinkOf c.roots (ids_of (map_at c p)) owner b.block.id link
 
 -- what a member has: its blocks, and of the agreed snapshot those of which it is the home and the copies of those of the member whose buddy it is, all linked
 pub record HasLinked (c : Case) (epoch : Epoch) (round : ℕ) (owner home : BlockId → ℕ) (local : ForestLocal) : Type 0 where
-  pub blocks : All (IsLinkedBlock c (time_at epoch round) owner local.rank) local.blocks
-  pub own : All (IsLinkedBlock c epoch.time home local.rank) local.buffers.active.own
-  pub other : All (IsLinkedBlock c epoch.time home local.buffers.active.source) local.buffers.active.other
+  pub blocks : All (IsLinkedBlock c (point_at c epoch round) owner local.rank) local.blocks
+  pub own : All (IsLinkedBlock c (before_regrid epoch.time) home local.rank) local.buffers.active.own
+  pub other : All (IsLinkedBlock c (before_regrid epoch.time) home local.buffers.active.source) local.buffers.active.other
 
 -- two ranks are neighbours: a leaf of the one touches a leaf of the other
-pub record AreNeighbors (c : Case) (time : ℕ) (owner : BlockId → ℕ) (rank other : ℕ) : Type 0 where
+pub record AreNeighbors (c : Case) (p : Point) (owner : BlockId → ℕ) (rank other : ℕ) : Type 0 where
   pub apart : (other == rank) ≡ false
   pub own : BlockId
   pub theirs : BlockId
-  pub leaf : Contains (ids_of (model c time)) own
-  pub other_leaf : Contains (ids_of (model c time)) theirs
+  pub leaf : Contains (ids_of (map_at c p)) own
+  pub other_leaf : Contains (ids_of (map_at c p)) theirs
   pub owned : owner own ≡ rank
   pub other_owned : owner theirs ≡ other
   pub touch : Touch c.roots own theirs
@@ -101,7 +103,7 @@ pub record HasCopies (shift : ℕ) (epoch : Epoch) (locals : List ForestLocal) (
 -- a rank's part of a time's map: of exactly those leaves that it owns, in the map's order, the model's blocks, linked with the leaves that touch them
 pub record IsPart (c : Case) (time : ℕ) (owner : BlockId → ℕ) (rank : ℕ) (blocks : List LinkedBlock) : Type 0 where
   pub ids : map (λ (b : LinkedBlock). b.block.id) blocks ≡ filter (λ i. owner i == rank) (ids_of (model c time))
-  pub linked : All (IsLinkedBlock c time owner rank) blocks
+  pub linked : All (IsLinkedBlock c (before_regrid time) owner rank) blocks
 
 -- what a rank's side has of a snapshot: the rank's own part, and a copy of that of the home whose buddy it is; one that is its own buddy has no copy
 pub record HasParts (c : Case) (time : ℕ) (homes : List ℕ) (home : BlockId → ℕ) (rank : ℕ) (side : Side LinkedBlock) : Type 0 where

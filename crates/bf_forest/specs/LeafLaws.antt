@@ -1,8 +1,7 @@
 -- The blocks of good locals are together the leaves of the model.
-use Rattle.std.proofs.Common.{◌≡◌, ℕ, ◌+◌, ◌-◌, ◌<◌, Bool, true, false, cond, List, [], ◌∷◌, ◌⊎◌, inl, inr, length, get_or, map, flat_map, refl, ap, sym, ◌∙◌, arith, All, subst}
+use Rattle.std.proofs.Common.{◌≡◌, ℕ, ◌+◌, ◌-◌, ◌<◌, Bool, true, false, cond, List, [], ◌∷◌, length, get_or, map, flat_map, refl, ap, sym, ◌∙◌, arith, All, subst}
 use Rattle.std.specs.Prelude.{IsTrue, ◌&&◌, not, nat_lt, Some, None, filter, slice_index_or}
 use Rattle.std.specs.List.{count_by}
-use Rattle.std.proofs.lemmas.Bool.{cases_lt, cases_order}
 use Rattle.std.proofs.lemmas.List.{length-map, get_or-map}
 use Rattle.std.proofs.lemmas.List.Elements.{All-nil, All-append, All-map, All-weaker}
 use Rattle.bf_id.specs.Id.{BlockId, root_id, id_eq}
@@ -13,19 +12,19 @@ use Rattle.bf_program.specs.declared.epoch.Epoch.{Epoch}
 use Rattle.bf_program.specs.Epochs.{epoch_after_commit, target_in}
 use Rattle.bf_program.specs.Restores.{heir_of, restored_epoch, restored_locals}
 use Rattle.bf_case.specs.declared.case.Case.{Case}
+use Rattle.bf_case.specs.Case.{IsValid}
 use Rattle.bf_case.specs.Map.{Leaf, cells_at, ids_of}
 use Rattle.bf_case.specs.Model.{model}
 use Rattle.bf_forest.specs.declared.setup.Setup.{Setup}
 use Rattle.bf_msg.specs.declared.linked_block.LinkedBlock.{LinkedBlock}
 use Rattle.bf_msg.specs.LinkedBlocks.{linked_kind}
-use Rattle.bf_forest.specs.Setup.{case_of, every_setup_keeps_roots}
-use Rattle.bf_forest.specs.Cases.{KeepsRoots}
+use Rattle.bf_forest.specs.Setup.{case_of, every_setup_is_valid}
 use Rattle.bf_parts.specs.Leaves.{Leaves, AreAmong, part_of, is_filled, side_at}
 use Rattle.bf_parts.specs.Counts.{count_append}
 use Rattle.bf_parts.specs.CoverLaws.{count_mapped}
 use Rattle.bf_parts.specs.StockLaws.{owner_filled}
 use Rattle.bf_parts.specs.Sides.{bare}
-use Rattle.bf_parts.specs.Spreads.{view_at}
+use Rattle.bf_parts.specs.Spreads.{Trio, view_at}
 use Rattle.bf_stages.specs.Stages.{World, IsPlaced, local_told}
 use Rattle.bf_stages.proofs.StartLemmas.{made_is, stored_told, counted_told, kept_world, kept_placed, kept_told, regained_world, regained_placed, restored_told}
 use Rattle.bf_forest.specs.declared.local.ForestLocal.{ForestLocal}
@@ -33,28 +32,15 @@ use Rattle.bf_forest.specs.BlockLaws.{model_map, model_cells, part_are, one_id, 
 use Rattle.bf_forest.specs.ForestLaws.{sides, staged, spans, whole_span, lawful_forest}
 use Rattle.bf_forest.specs.Goods.{IsGood, local_at, AreDealt}
 use Rattle.bf_forest.specs.Leaves.{bare_blocks, times_among, AreLeaves}
-use Rattle.bf_block.specs.Block.{BlockValue}
+use Rattle.bf_block.specs.declared.point.Point.{Point}
+use Rattle.bf_block.specs.Block.{BlockValue, before_regrid, map_at}
 use Rattle.bf_forest.specs.Locals.{local_with}
 use Rattle.bf_forest.specs.Meanings.{forest}
-use Rattle.bf_forest.specs.ModelBlocks.{blocks_at, IsBlockAt}
-use Rattle.bf_forest.specs.StageLaws.{rounds_are, stage_step, stage_snapshot, stage_over, time_step, time_end, time_first}
-use Rattle.bf_stages.specs.Plans.{span, rounds_of, stage_of}
-use Rattle.bf_forest.specs.Stages.{forest_plan, time_at}
-use Rattle.bf_forest.specs.Staging.{leaves_in, Runs, forest_staging}
-
--- the leaves at the beginning of a round
-pub leaves_now : (c : Case) (epoch : Epoch) (round : ℕ) → epoch.time + span epoch ≡ epoch.target → leaves_in c epoch (stage_of forest_plan epoch round) ≡ blocks_at c (time_at epoch round)
-leaves_now c epoch round whole = elim (cases_lt round (span epoch)) [
-  | inl before ↦ ap (leaves_in c epoch) (stage_step epoch round before) ∙ ap (blocks_at c) (sym (time_step epoch round before))
-  | inr after ↦ elim (cases_order round (span epoch)) [
-    | inl last ↦ ap (leaves_in c epoch) (stage_snapshot epoch round last) ∙ ap (blocks_at c) (sym (time_end epoch round whole after))
-    | inr other ↦ ap (leaves_in c epoch) (stage_over epoch round (omega (arith, after, apart other))) ∙ ap (blocks_at c) (sym (time_end epoch round whole after))
-  ]
-]
-  where
-    apart : (round < span epoch) ⊎ (span epoch < round) → round ≡ span epoch → ⊥
-    apart (inl less) same = omega (arith, less, same)
-    apart (inr more) same = omega (arith, more, same)
+use Rattle.bf_forest.specs.ModelBlocks.{blocks_at, blocks_on, IsBlockOn}
+use Rattle.bf_forest.specs.StageLaws.{point_end, point_first, rounds_are}
+use Rattle.bf_stages.specs.Plans.{rounds_of, stage_of}
+use Rattle.bf_forest.specs.Stages.{forest_plan}
+use Rattle.bf_forest.specs.Staging.{point_at, trio_in, Runs, forest_staging}
 
 abbrev pub ForestWorld : Type 0
 ForestWorld = World BlockId
@@ -63,19 +49,16 @@ abbrev pub Placed : Setup → Epoch → (round : ℕ) → ForestWorld → Type 0
 Placed setup epoch round world = IsPlaced forest forest_staging setup epoch round world
 
 -- a local that is told, in plain words
-told_is : (setup : Setup) (epoch : Epoch) (round : ℕ) (world : ForestWorld) → Runs (case_of setup) epoch → (rank : ℕ)
+told_is : (setup : Setup) (epoch : Epoch) (round : ℕ) (world : ForestWorld) (rank : ℕ)
     → local_told forest forest_staging setup epoch round world rank ≡ local_at (case_of setup) epoch round world.owner world.home rank
-unfolding stage_of
-told_is setup epoch round world runs rank =
+unfolding point_at stage_of
+told_is setup epoch round world rank =
     let c : Case = case_of setup in
-    ap (λ (b : Bool). local_with (view_at c.shift epoch b (record { now = leaves_in c epoch (stage_of forest_plan epoch round); agreed = blocks_at c epoch.time; new = blocks_at c epoch.target })
-    world.owner world.home rank) []) (made_is forest forest_staging setup (staged setup) epoch round)
-    ∙ ap (λ (ls : Leaves BlockId LinkedBlock). local_with (view_at c.shift epoch (not (nat_lt round (rounds_of forest_plan epoch)))
-    (record { now = ls; agreed = blocks_at c epoch.time; new = blocks_at c epoch.target }) world.owner world.home rank) []) (leaves_now c epoch round (whole_span setup epoch runs))
+    let trio : Trio BlockId LinkedBlock = trio_in c epoch (stage_of forest_plan epoch round) in
+    ap (λ (b : Bool). local_with (view_at c.shift epoch b trio world.owner world.home rank) []) (made_is forest forest_staging setup (staged setup) epoch round)
     ∙ at (nat_lt round (rounds_of forest_plan epoch))
   where
-    at : (b : Bool) → local_with (view_at (case_of setup).shift epoch (not b)
-        (record { now = blocks_at (case_of setup) (time_at epoch round); agreed = blocks_at (case_of setup) epoch.time; new = blocks_at (case_of setup) epoch.target }) world.owner world.home rank) []
+    at : (b : Bool) → local_with (view_at (case_of setup).shift epoch (not b) (trio_in (case_of setup) epoch (stage_of forest_plan epoch round)) world.owner world.home rank) []
         ≡ record (local_at (case_of setup) epoch round world.owner world.home rank) {
           buffers = record (local_at (case_of setup) epoch round world.owner world.home rank).buffers {
             spare = cond b bare (side_at epoch.target epoch.members (case_of setup).shift (blocks_at (case_of setup) epoch.target) world.owner rank);
@@ -85,24 +68,23 @@ told_is setup epoch round world runs rank =
     at false = refl
 
 -- so is each good vector
-pub locals_are : (setup : Setup) (epoch : Epoch) (round : ℕ) (world : ForestWorld) (ranks : List ℕ) → Runs (case_of setup) epoch
+pub locals_are : (setup : Setup) (epoch : Epoch) (round : ℕ) (world : ForestWorld) (ranks : List ℕ)
     → map (local_told forest forest_staging setup epoch round world) ranks ≡ map (local_at (case_of setup) epoch round world.owner world.home) ranks
-locals_are setup epoch round world ranks runs = ap (λ (f : ℕ → ForestLocal). map f ranks) (λ i rank. told_is setup epoch round world runs rank i)
+locals_are setup epoch round world ranks = ap (λ (f : ℕ → ForestLocal). map f ranks) (λ i rank. told_is setup epoch round world rank i)
 
-owned_now : (setup : Setup) (epoch : Epoch) (round : ℕ) (world : ForestWorld) → Placed setup epoch round world → AreAmong epoch.members (blocks_at (case_of setup) (time_at epoch round)) world.owner
-unfolding stage_of
-owned_now setup epoch round world placed =
-    subst (λ (ls : Leaves BlockId LinkedBlock). AreAmong epoch.members ls world.owner) (leaves_now (case_of setup) epoch round (whole_span setup epoch placed.runs)) placed.owned
+owned_now : (setup : Setup) (epoch : Epoch) (round : ℕ) (world : ForestWorld) → Placed setup epoch round world → AreAmong epoch.members (blocks_on (case_of setup) (point_at (case_of setup) epoch round)) world.owner
+unfolding point_at stage_of
+owned_now setup epoch round world placed = placed.owned
 
 -- so the blocks are dealt
 pub dealt : (setup : Setup) (epoch : Epoch) (round : ℕ) (world : ForestWorld) (locals : List ForestLocal) → Placed setup epoch round world
     → locals ≡ map (local_told forest forest_staging setup epoch round world) epoch.members → AreDealt (case_of setup) epoch round world.owner world.home locals
 dealt setup epoch round world locals placed are = record {
-  rising = λ time. (model_map (case_of setup) time (every_setup_keeps_roots setup)).rising;
+  rising = λ p. (model_map (case_of setup) p (every_setup_is_valid setup)).rising;
   owned = owned_now setup epoch round world placed;
   housed = placed.housed;
   held = placed.held;
-  are = are ∙ locals_are setup epoch round world epoch.members placed.runs;
+  are = are ∙ locals_are setup epoch round world epoch.members;
 }
 
 pub all_dealt : (setup : Setup) (epoch : Epoch) (round : ℕ) (locals : List ForestLocal) → IsGood setup epoch round locals
@@ -116,10 +98,10 @@ world_of owner home = record { home = home; owner = owner }
 
 pub placed_where_dealt : (setup : Setup) (epoch : Epoch) (round : ℕ) (owner home : BlockId → ℕ) (locals : List ForestLocal) → Runs (case_of setup) epoch
     → AreDealt (case_of setup) epoch round owner home locals → Placed setup epoch round (world_of owner home)
-unfolding stage_of
+unfolding point_at stage_of
 placed_where_dealt setup epoch round owner home locals runs are_dealt = record {
   runs = runs;
-  owned = subst (λ (ls : Leaves BlockId LinkedBlock). AreAmong epoch.members ls owner) (sym (leaves_now (case_of setup) epoch round (whole_span setup epoch runs))) are_dealt.owned;
+  owned = are_dealt.owned;
   housed = are_dealt.housed;
   held = are_dealt.held;
   also = tt;
@@ -127,20 +109,20 @@ placed_where_dealt setup epoch round owner home locals runs are_dealt = record {
 
 pub told_where_dealt : (setup : Setup) (epoch : Epoch) (round : ℕ) (owner home : BlockId → ℕ) (locals : List ForestLocal) → Runs (case_of setup) epoch
     → AreDealt (case_of setup) epoch round owner home locals → locals ≡ map (local_told forest forest_staging setup epoch round (world_of owner home)) epoch.members
-told_where_dealt setup epoch round owner home locals runs are_dealt = are_dealt.are ∙ sym (locals_are setup epoch round (world_of owner home) epoch.members runs)
+told_where_dealt setup epoch round owner home locals runs are_dealt = are_dealt.are ∙ sym (locals_are setup epoch round (world_of owner home) epoch.members)
 
 -- THE LEAVES OF ALL MEMBERS
 abbrev own_blocks : ForestLocal → List BlockValue
 own_blocks local = bare_blocks local.blocks
 
-parts_are : (c : Case) (epoch : Epoch) (round : ℕ) (owner home : BlockId → ℕ) (ranks : List ℕ) → KeepsRoots c
-    → All (IsBlockAt c (time_at epoch round)) (flat_map own_blocks (map (local_at c epoch round owner home) ranks))
-parts_are c epoch round owner home [] runs = All-nil (IsBlockAt c (time_at epoch round))
-parts_are c epoch round owner home (rank ∷ ranks) runs =
-    All-append (IsBlockAt c (time_at epoch round)) (bare_blocks (part_of (blocks_at c (time_at epoch round)) owner rank))
-    (flat_map own_blocks (map (local_at c epoch round owner home) ranks))
-    (All-map (IsBlockAt c (time_at epoch round)) (λ (b : LinkedBlock). b.block) (part_of (blocks_at c (time_at epoch round)) owner rank) (part_are c (time_at epoch round) owner rank runs))
-    (parts_are c epoch round owner home ranks runs)
+parts_are : (c : Case) (epoch : Epoch) (round : ℕ) (owner home : BlockId → ℕ) (ranks : List ℕ) → IsValid c
+    → All (IsBlockOn c (point_at c epoch round)) (flat_map own_blocks (map (local_at c epoch round owner home) ranks))
+parts_are c epoch round owner home [] valid = All-nil (IsBlockOn c (point_at c epoch round))
+parts_are c epoch round owner home (rank ∷ ranks) valid =
+    let p : Point = point_at c epoch round in
+    All-append (IsBlockOn c p) (bare_blocks (part_of (blocks_on c p) owner rank)) (flat_map own_blocks (map (local_at c epoch round owner home) ranks))
+    (All-map (IsBlockOn c p) (λ (b : LinkedBlock). b.block) (part_of (blocks_on c p) owner rank) (part_are c p owner rank valid))
+    (parts_are c epoch round owner home ranks valid)
 
 -- links count for nothing
 bare_counted : (test : BlockValue → Bool) (locals : List ForestLocal)
@@ -153,42 +135,36 @@ bare_counted test (local ∷ locals) =
     ∙ sym (count_append (λ (b : LinkedBlock). test b.block) local.blocks (flat_map (λ (local : ForestLocal). local.blocks) locals))
 
 -- counted by a test of their ids
-ids_counted : (c : Case) (time : ℕ) (owner : BlockId → ℕ) (test : BlockId → Bool)
-    → count_by (λ key. test ((blocks_at c time).item owner key).block.id) (blocks_at c time).keys ≡ count_by test (ids_of (model c time))
-unfolding blocks_at
-ids_counted c time owner test = refl
-
 counted : (setup : Setup) (epoch : Epoch) (round : ℕ) (locals : List ForestLocal) → IsGood setup epoch round locals → (test : BlockId → Bool)
-    → count_by (λ (b : BlockValue). test b.id) (flat_map own_blocks locals) ≡ count_by test (ids_of (model (case_of setup) (time_at epoch round)))
-unfolding IsGood stage_of
+    → count_by (λ (b : BlockValue). test b.id) (flat_map own_blocks locals) ≡ count_by test (ids_of (map_at (case_of setup) (point_at (case_of setup) epoch round)))
+unfolding IsGood point_at stage_of blocks_on
 counted setup epoch round locals good test =
-    let c : Case = case_of setup in
-    let world : ForestWorld = good.world in
     bare_counted (λ b. test b.id) locals
     ∙ ap (λ (ls : List ForestLocal). count_by (λ (b : LinkedBlock). test b.block.id) (flat_map (λ (local : ForestLocal). local.blocks) ls)) good.are
-    ∙ counted_told forest forest_staging linked_kind setup (sides setup) epoch round world (λ (b : LinkedBlock). test b.block.id) good.fits
-    ∙ ap (λ (ls : Leaves BlockId LinkedBlock). count_by (λ key. test (ls.item world.owner key).block.id) ls.keys) (leaves_now c epoch round (whole_span setup epoch good.fits.runs))
-    ∙ ids_counted c (time_at epoch round) world.owner test
+    ∙ counted_told forest forest_staging linked_kind setup (sides setup) epoch round good.world (λ (b : LinkedBlock). test b.block.id) good.fits
 
 pub good_leaves : (setup : Setup) (epoch : Epoch) (round : ℕ) (locals : List ForestLocal) → IsGood setup epoch round locals
-    → AreLeaves (model (case_of setup) (time_at epoch round)) (flat_map own_blocks locals)
+    → AreLeaves (map_at (case_of setup) (point_at (case_of setup) epoch round)) (flat_map own_blocks locals)
 good_leaves setup epoch round locals good = record {
-  cells = All-weaker (IsBlockAt c time) (λ (b : BlockValue). cells_at (model c time) b.id ≡ Some b.cells) (λ b is. model_cells c time b is) blocks
-      (subst (λ (ls : List ForestLocal). All (IsBlockAt c time) (flat_map own_blocks ls)) (sym has.2.are)
-      (parts_are c epoch round has.0 has.1 epoch.members (every_setup_keeps_roots setup)));
+  cells = All-weaker (IsBlockOn c p) (λ (b : BlockValue). cells_at leaves b.id ≡ Some b.cells) (λ b is. model_cells c p b is) blocks
+      (subst (λ (ls : List ForestLocal). All (IsBlockOn c p) (flat_map own_blocks ls)) (sym has.2.are)
+      (parts_are c epoch round has.0 has.1 epoch.members (every_setup_is_valid setup)));
   once = λ k d within.
-      let same : get_or (ids_of (model c time)) k d.0 ≡ (get_or (model c time) k d).0 = get_or-map (λ (leaf : Leaf). leaf.0) (model c time) k d d.0 within in
-      let below : k < length (ids_of (model c time)) = omega (arith, within, length-map (model c time) (λ (leaf : Leaf). leaf.0)) in
+      let same : get_or (ids_of leaves) k d.0 ≡ (get_or leaves k d).0 = get_or-map (λ (leaf : Leaf). leaf.0) leaves k d d.0 within in
+      let below : k < length (ids_of leaves) = omega (arith, within, length-map leaves (λ (leaf : Leaf). leaf.0)) in
       ap (times_among blocks) (sym same)
-      ∙ counted setup epoch round locals good (λ i. id_eq i (get_or (ids_of (model c time)) k d.0))
-      ∙ one_id c time k d.0 (every_setup_keeps_roots setup) below;
+      ∙ counted setup epoch round locals good (λ i. id_eq i (get_or (ids_of leaves) k d.0))
+      ∙ one_id c p k d.0 (every_setup_is_valid setup) below;
 }
   where
     c : Case
     c = case_of setup
 
-    time : ℕ
-    time = time_at epoch round
+    p : Point
+    p = point_at c epoch round
+
+    leaves : List Leaf
+    leaves = map_at c p
 
     blocks : List BlockValue
     blocks = flat_map own_blocks locals
@@ -199,10 +175,9 @@ good_leaves setup epoch round locals good = record {
 -- the blocks at the end of an epoch
 pub last_leaves : (setup : Setup) (epoch : Epoch) (locals : List ForestLocal) → IsGood setup epoch (rounds_of forest_plan epoch) locals
     → AreLeaves (model (case_of setup) epoch.target) (flat_map own_blocks locals)
-unfolding IsGood
 last_leaves setup epoch locals good =
-    subst (λ t. AreLeaves (model (case_of setup) t) (flat_map own_blocks locals))
-    (time_end epoch (rounds_of forest_plan epoch) (whole_span setup epoch good.fits.runs) (let many = rounds_are epoch in omega (arith, many))) (good_leaves setup epoch (rounds_of forest_plan epoch) locals good)
+    subst (λ (p : Point). AreLeaves (map_at (case_of setup) p) (flat_map own_blocks locals))
+    (point_end (case_of setup) epoch (rounds_of forest_plan epoch) (let many = rounds_are epoch in omega (arith, many))) (good_leaves setup epoch (rounds_of forest_plan epoch) locals good)
 
 -- A COMMIT
 pub all_kept : (setup : Setup) (epoch : Epoch) (owner home : BlockId → ℕ) (locals : List ForestLocal) → Runs (case_of setup) epoch
@@ -223,10 +198,12 @@ all_kept setup epoch owner home locals runs are_dealt goes_on =
 pub restored_leaves : (setup : Setup) (epoch : Epoch) (round : ℕ) (locals : List ForestLocal) (lives : ℕ → Bool) → IsGood setup epoch round locals
     → first_lost_of epoch.homes (forest.stored locals) (filter lives epoch.members) (forest.shift setup) ≡ None
     → AreLeaves (model (case_of setup) epoch.time) (flat_map own_blocks (restored_locals forest setup epoch lives locals))
+unfolding IsGood
 restored_leaves setup epoch round locals lives good none =
+    let next : Epoch = restored_epoch lives epoch in
     let after : List ForestLocal = restored_locals forest setup epoch lives locals in
-    subst (λ time. AreLeaves (model (case_of setup) time) (flat_map own_blocks after)) (time_first (restored_epoch lives epoch))
-    (good_leaves setup (restored_epoch lives epoch) 0 after ((lawful_forest setup).goods.restore epoch round locals lives good none))
+    let restored : IsGood setup next 0 after = (lawful_forest setup).goods.restore epoch round locals lives good none in
+    subst (λ (p : Point). AreLeaves (map_at (case_of setup) p) (flat_map own_blocks after)) (point_first setup next (whole_span setup next restored.fits.runs)) (good_leaves setup next 0 after restored)
 
 -- who lives goes on with the blocks whose heir it is
 pub all_regained : (setup : Setup) (epoch : Epoch) (round : ℕ) (owner home : BlockId → ℕ) (locals : List ForestLocal) (lives : ℕ → Bool) → Runs (case_of setup) epoch
@@ -262,7 +239,7 @@ unfolding IsGood
 some_home setup epoch round locals good =
     let c : Case = case_of setup in
     let leaves : Leaves BlockId LinkedBlock = blocks_at c epoch.time in
-    let some : 0 < length leaves.keys = some_leaf c epoch.time (every_setup_keeps_roots setup) in
+    let some : 0 < length leaves.keys = some_leaf c (before_regrid epoch.time) (every_setup_is_valid setup) in
     let i : BlockId = slice_index_or leaves.keys 0 (root_id 0) in
     let home : ℕ = good.world.home i in
     let is_home : is_member epoch.homes home ≡ true = good.fits.housed 0 (root_id 0) some in

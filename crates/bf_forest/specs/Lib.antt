@@ -1,5 +1,4 @@
 -- The forest as a round program: its stages, its locals, and its laws.
-pub mod Cases
 pub mod Setup
 pub mod Stages
 pub mod ModelBlocks

@@ -11,8 +11,10 @@ use Rattle.bf_id.specs.Shape.{InDomain}
 use Rattle.bf_id.proofs.Boxes.{domain_holds}
 use Rattle.bf_id.proofs.Tilings.{Contains-flat_map_cases, Contains-head, Contains-tail}
 use Rattle.bf_case.specs.declared.case.Case.{Case}
+use Rattle.bf_case.specs.Case.{IsValid}
 use Rattle.bf_case.specs.Map.{ids_of}
-use Rattle.bf_case.specs.Model.{model}
+use Rattle.bf_block.specs.declared.point.Point.{Point}
+use Rattle.bf_block.specs.Block.{map_at}
 use Rattle.bf_case.proofs.ListLemmas.{Contains-map_cases}
 use Rattle.bf_case.proofs.TestLemmas.{holds_decides}
 use Rattle.bf_msg.specs.declared.linked_block.LinkedBlock.{LinkedBlock}
@@ -22,17 +24,16 @@ use Rattle.bf_program.specs.declared.epoch.Epoch.{Epoch}
 use Rattle.bf_forest.specs.declared.local.ForestLocal.{ForestLocal}
 use Rattle.bf_forest.specs.declared.setup.Setup.{Setup}
 use Rattle.bf_forest.specs.BlockLaws.{model_map, part_each}
-use Rattle.bf_forest.specs.Cases.{KeepsRoots}
 use Rattle.bf_forest.specs.ForestLaws.{lawful_forest}
 use Rattle.bf_forest.specs.Goods.{IsGood, TileDomain, local_at}
 use Rattle.bf_forest.specs.LeafLaws.{all_dealt}
 use Rattle.bf_forest.specs.Meanings.{box_in, in_domain, pieces}
-use Rattle.bf_forest.specs.ModelBlocks.{blocks_at}
-use Rattle.bf_forest.specs.Setup.{case_of, every_setup_keeps_roots}
-use Rattle.bf_forest.specs.Stages.{time_at}
+use Rattle.bf_forest.specs.ModelBlocks.{blocks_on}
+use Rattle.bf_forest.specs.Staging.{point_at}
+use Rattle.bf_forest.specs.Setup.{case_of, every_setup_is_valid}
 
 -- WHAT COUNTS TELL: where some pass a test, there is one
-some_counted : {X : Type 0} (test : X → Bool) (xs : List X) → 1 ≤ count_by test xs → (x : X) × Contains xs x × (test x ≡ true)
+pub some_counted : {X : Type 0} (test : X → Bool) (xs : List X) → 1 ≤ count_by test xs → (x : X) × Contains xs x × (test x ≡ true)
 some_counted test [] some = absurd (omega (arith, some))
 some_counted {X = X} test (x ∷ xs) some = at (test x) refl (some_counted test xs)
   where
@@ -44,7 +45,7 @@ some_counted {X = X} test (x ∷ xs) some = at (test x) refl (some_counted test 
         (one.0, Contains-tail x xs one.0 one.1, one.2)
 
 -- one that passes counts, and two count twice
-one_counts : {X : Type 0} (test : X → Bool) (xs : List X) (i : ℕ) (d : X) → i < length xs → test (get_or xs i d) ≡ true → 1 ≤ count_by test xs
+pub one_counts : {X : Type 0} (test : X → Bool) (xs : List X) (i : ℕ) (d : X) → i < length xs → test (get_or xs i d) ≡ true → 1 ≤ count_by test xs
 one_counts test [] i d within passes = absurd (omega arith)
 one_counts test (x ∷ xs) zero d within passes = let counted = count_cons test x xs ∙ ap (λ b. once b + count_by test xs) passes in omega (arith, counted)
 one_counts test (x ∷ xs) (suc i) d within passes =
@@ -68,15 +69,15 @@ two_count test (x ∷ xs) (suc i) (suc j) d before within first second =
 domain_tested : (shape : Shape) (v : Voxel) → InDomain shape v → in_domain shape v ≡ true
 domain_tested shape v inside = grind (arith, nat_tests, inside.along_x, inside.along_y, inside.along_z)
 
-part_within : (c : Case) (time : ℕ) (owner : BlockId → ℕ) (rank : ℕ) (box : Cube) (v : Voxel) → KeepsRoots c → Contains (map box_in (part_of (blocks_at c time) owner rank)) box → Holds box v → InDomain c.roots v
-part_within c time owner rank box v runs has inside =
+part_within : (c : Case) (p : Point) (owner : BlockId → ℕ) (rank : ℕ) (box : Cube) (v : Voxel) → IsValid c → Contains (map box_in (part_of (blocks_on c p) owner rank)) box → Holds box v → InDomain c.roots v
+part_within c p owner rank box v valid has inside =
     let P : LinkedBlock → Type 0 = λ b. Holds (box_in b) v → InDomain c.roots v in
-    let part : List LinkedBlock = part_of (blocks_at c time) owner rank in
-    let of_map = model_map c time runs in
+    let part : List LinkedBlock = part_of (blocks_on c p) owner rank in
+    let of_map = model_map c p valid in
     let block = Contains-map_cases box_in part box has in
     All-contains P part block.0
-    (part_each P c time owner rank (λ i leaf its. domain_holds c.roots i v runs.valid.sized.shape (All-contains IsId (ids_of (model c time)) i of_map.ids leaf)
-    (All-contains (InShape c.roots) (ids_of (model c time)) i of_map.in_shape leaf)))
+    (part_each P c p owner rank (λ i leaf its. domain_holds c.roots i v valid.sized.shape (All-contains IsId (ids_of (map_at c p)) i of_map.ids leaf)
+    (All-contains (InShape c.roots) (ids_of (map_at c p)) i of_map.in_shape leaf)))
     block.1 (subst (λ (b : Cube). Holds b v) block.2 inside)
 
 -- THE DOMAIN has each of its units in one piece
@@ -108,5 +109,5 @@ pieces_tile setup epoch round locals good = record {
         let dealt = all_dealt setup epoch round locals good in
         let its = Contains-flat_map_cases pieces.of_local locals box has in
         let member = Contains-map_cases (local_at c epoch round dealt.0 dealt.1) epoch.members its.0 (subst (λ (ls : List ForestLocal). Contains ls its.0) dealt.2.are its.1) in
-        part_within c (time_at epoch round) dealt.0 member.0 box v (every_setup_keeps_roots setup)
+        part_within c (point_at c epoch round) dealt.0 member.0 box v (every_setup_is_valid setup)
         (subst (λ (local : ForestLocal). Contains (pieces.of_local local) box) member.2 its.2) inside

@@ -3,7 +3,7 @@ use Rattle.std.specs.Prelude.{◌≡◌, ℕ, ◌<◌, List, ◌++◌, length, g
 use Rattle.bf_id.specs.Id.{BlockId, InShape}
 use Rattle.bf_id.specs.Walk.{IsBefore}
 use Rattle.bf_case.specs.declared.case.Case.{Case}
-use Rattle.bf_case.specs.Model.{model}
+use Rattle.bf_block.specs.Block.{map_at}
 use Rattle.bf_links.specs.declared.link.Link.{Link}
 use Rattle.bf_ghost.specs.Strips.{StripValue}
 use Rattle.bf_ghost.specs.Filling.{AreStripsFor}
@@ -12,7 +12,7 @@ use Rattle.bf_msg.specs.declared.linked_block.LinkedBlock.{LinkedBlock}
 use Rattle.bf_forest.specs.declared.local.ForestLocal.{ForestLocal}
 use Rattle.bf_forest.specs.declared.stage.Stage.{Stage}
 use Rattle.bf_forest.specs.declared.stage.Stage.TheVariants.{Step, Snapshot, Over}
-use Rattle.bf_forest.specs.ModelBlocks.{IsBlockAt}
+use Rattle.bf_forest.specs.ModelBlocks.{ready, IsBlockOn}
 use Rattle.bf_forest.specs.Rounds.{strips_to}
 
 -- all leaves that a block is linked with lie in the domain
@@ -40,15 +40,15 @@ StandsAt blocks id place = (place < length blocks) × ((default : LinkedBlock) �
 abbrev pub StandsNowhere : List LinkedBlock → BlockId → Type 0
 StandsNowhere blocks id = (place : ℕ) (default : LinkedBlock) → place < length blocks → (get_or blocks place default).block.id ≡ id → ⊥
 
--- a block of the model, to which all leaves that share a face with it tell what lies there
+-- a block of the model from which a step goes, to which all leaves that share a face with it tell what lies there
 pub record CanStep (c : Case) (time : ℕ) (strips : List StripValue) (b : LinkedBlock) : Type 0 where
-  pub is : IsBlockAt c time b.block
-  pub told : AreStripsFor c.roots (model c time) b.block.id (strips_for b.block.id strips)
+  pub is : IsBlockOn c (ready c time) b.block
+  pub told : AreStripsFor c.roots (map_at c (ready c time)) b.block.id (strips_for b.block.id strips)
 
 -- the same of a block and the strips that are for it
 pub record IsBetween (c : Case) (time : ℕ) (strips : List StripValue) (b : LinkedBlock) : Type 0 where
-  pub is : IsBlockAt c time b.block
-  pub told : AreStripsFor c.roots (model c time) b.block.id strips
+  pub is : IsBlockOn c (ready c time) b.block
+  pub told : AreStripsFor c.roots (map_at c (ready c time)) b.block.id strips
   pub more : time < c.steps
 
 abbrev pub IsPairBetween : Case → (time : ℕ) → LinkedBlock × List StripValue → Type 0

@@ -8,6 +8,8 @@ use Rattle.bf_buddy.specs.Buddy.{buddy_of, predecessor_of}
 use Rattle.bf_buddy.specs.Members.{is_member}
 use Rattle.bf_buddy.proofs.LawLemmas.{buddy_undoes}
 use Rattle.bf_case.specs.declared.case.Case.{Case}
+use Rattle.bf_case.specs.Case.{IsValid}
+use Rattle.bf_block.specs.declared.point.Point.{Point}
 use Rattle.bf_case.proofs.ListLemmas.{Contains-map_cases}
 use Rattle.bf_case.proofs.TestLemmas.{any_from_passes, Contains-filter, Contains-filter_cases}
 use Rattle.bf_id.specs.Id.{BlockId}
@@ -32,12 +34,11 @@ use Rattle.bf_forest.specs.ForestLaws.{staged, whole_span}
 use Rattle.bf_forest.specs.Goods.{AreDealt, ArePartners, HasCopies, HasParts, IsGood, local_at}
 use Rattle.bf_forest.specs.LeafLaws.{ForestWorld, Placed, all_dealt, dealt, placed_where_dealt, told_where_dealt, world_of}
 use Rattle.bf_forest.specs.Meanings.{forest, pieces}
-use Rattle.bf_forest.specs.ModelBlocks.{blocks_at}
+use Rattle.bf_forest.specs.ModelBlocks.{blocks_at, blocks_on}
 use Rattle.bf_forest.specs.RoundLaws.{has_stages}
 use Rattle.bf_forest.specs.Rounds.{play_of}
-use Rattle.bf_forest.specs.Cases.{KeepsRoots}
-use Rattle.bf_forest.specs.Setup.{case_of, every_setup_keeps_roots}
-use Rattle.bf_forest.specs.StageLaws.{rounds_are, stage_snapshot, time_end}
+use Rattle.bf_forest.specs.Setup.{case_of, every_setup_is_valid}
+use Rattle.bf_forest.specs.StageLaws.{point_end, rounds_are, stage_snapshot}
 use Rattle.bf_forest.specs.Stages.{forest_plan}
 use Rattle.bf_forest.specs.Staging.{forest_staging, Runs}
 use Rattle.bf_forest.specs.StripLaws.{member_contains}
@@ -114,7 +115,7 @@ module _ (c : Case) (epoch : Epoch) (round : ℕ) (owner home : BlockId → ℕ)
       past = grind (arith, nat_tests, done)
 
   blocks_are : (rank : ℕ) → (local_at c epoch round owner home rank).blocks ≡ part rank
-  blocks_are rank = ap (λ time. part_of (blocks_at c time) owner rank) (time_end epoch round whole (omega (arith, rounds_are epoch, done)))
+  blocks_are rank = ap (λ (p : Point). part_of (blocks_on c p) owner rank) (point_end c epoch round (omega (arith, rounds_are epoch, done)))
 
   copies_at : (rank : ℕ) → is_member epoch.members rank ≡ true → HasCopies c.shift epoch locals (local_at c epoch round owner home rank)
   copies_at rank member =
@@ -149,19 +150,19 @@ module _ (c : Case) (epoch : Epoch) (round : ℕ) (owner home : BlockId → ℕ)
   abbrev HasNew : ForestLocal → Type 0
   HasNew local = HasParts c epoch.target epoch.members owner local.rank local.buffers.spare
 
-  all_new : KeepsRoots c → All HasNew locals
-  all_new runs = All-from_Contains HasNew locals (λ local there.
+  all_new : IsValid c → All HasNew locals
+  all_new valid = All-from_Contains HasNew locals (λ local there.
       let is = its local there in
       let member : is_member epoch.members is.0 ≡ true = any_from_passes (λ member. member == is.0) epoch.members is.0 is.1 (eq-eqb is.0 is.0 refl) in
       subst HasNew (sym is.2)
       (subst (HasParts c epoch.target epoch.members owner is.0) (sym (spare_at is.0))
-      (parts_at c epoch.target epoch.members owner is.0 runs dealt.held.members_rise member)))
+      (parts_at c epoch.target epoch.members owner is.0 valid dealt.held.members_rise member)))
 
 pub all_have_new : (setup : Setup) (epoch : Epoch) (owner home : BlockId → ℕ) (locals : List ForestLocal) → Runs (case_of setup) epoch
     → AreDealt (case_of setup) epoch (rounds_of forest_plan epoch) owner home locals
     → All (λ (local : ForestLocal). HasParts (case_of setup) epoch.target epoch.members owner local.rank local.buffers.spare) locals
 all_have_new setup epoch owner home locals runs are_dealt =
-    all_new (case_of setup) epoch (rounds_of forest_plan epoch) owner home locals are_dealt (whole_span setup epoch runs) refl (every_setup_keeps_roots setup)
+    all_new (case_of setup) epoch (rounds_of forest_plan epoch) owner home locals are_dealt (whole_span setup epoch runs) refl (every_setup_is_valid setup)
 
 -- so have all after the round, in which nobody's blocks move
 pub all_copied_after : (setup : Setup) (epoch : Epoch) (round : ℕ) (owner home : BlockId → ℕ) (locals : List ForestLocal) → Runs (case_of setup) epoch

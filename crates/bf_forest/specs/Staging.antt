@@ -14,9 +14,11 @@ use Rattle.bf_parts.specs.Leaves.{Leaves, part_of, side_at}
 use Rattle.bf_parts.specs.Sides.{bare}
 use Rattle.bf_parts.specs.Spreads.{Trio, view_at}
 use Rattle.bf_stages.specs.Moves.{Hand}
-use Rattle.bf_stages.specs.Plans.{stages_of}
+use Rattle.bf_stages.specs.Plans.{stage_of, stages_of}
 use Rattle.bf_stages.specs.Snapshots.{sees_paired, snapshot_course}
 use Rattle.bf_stages.specs.Stages.{World, Staging}
+use Rattle.bf_block.specs.declared.point.Point.{Point}
+use Rattle.bf_block.specs.Block.{before_regrid}
 use Rattle.bf_ghost.specs.Strips.{StripValue}
 use Rattle.bf_msg.specs.declared.linked_block.LinkedBlock.{LinkedBlock}
 use Rattle.bf_msg.specs.declared.message.Message.{Message}
@@ -25,7 +27,7 @@ use Rattle.bf_forest.specs.declared.local.ForestLocal.{ForestLocal}
 use Rattle.bf_forest.specs.declared.stage.Stage.{Stage}
 use Rattle.bf_forest.specs.declared.stage.Stage.TheVariants.{Step, Snapshot, Over}
 use Rattle.bf_forest.specs.Locals.{view_in, local_with}
-use Rattle.bf_forest.specs.ModelBlocks.{blocks_at}
+use Rattle.bf_forest.specs.ModelBlocks.{blocks_at, blocks_on, ready}
 use Rattle.bf_forest.specs.Rounds.{step_play, play_of}
 use Rattle.bf_forest.specs.Stages.{forest_plan}
 
@@ -35,18 +37,25 @@ is_made (Step time) = false
 is_made Snapshot = false
 is_made Over = true
 
+-- the point at which all blocks are at the beginning of a stage, and of a round
+abbrev pub point_in : Case → Epoch → Stage → Point
+point_in c epoch (Step time) = ready c time
+point_in c epoch Snapshot = before_regrid epoch.target
+point_in c epoch Over = before_regrid epoch.target
+
+unfoldable pub point_at : Case → Epoch → (round : ℕ) → Point
+point_at c epoch round = point_in c epoch (stage_of forest_plan epoch round)
+
 -- the leaves at the beginning of a stage
 abbrev pub leaves_in : Case → Epoch → Stage → Leaves BlockId LinkedBlock
-leaves_in c epoch (Step time) = blocks_at c time
-leaves_in c epoch Snapshot = blocks_at c epoch.target
-leaves_in c epoch Over = blocks_at c epoch.target
+leaves_in c epoch stage = blocks_on c (point_in c epoch stage)
 
 abbrev pub trio_in : Case → Epoch → Stage → Trio BlockId LinkedBlock
 trio_in c epoch stage = record { now = leaves_in c epoch stage; agreed = blocks_at c epoch.time; new = blocks_at c epoch.target }
 
--- a rank's blocks of a time, with what it has heard
-abbrev pub hand_at : Case → (time : ℕ) → (owner : BlockId → ℕ) → (rank : ℕ) → (heard : List StripValue) → Hand (List StripValue) LinkedBlock
-hand_at c time owner rank heard = record { rank = rank; known = heard; items = part_of (blocks_at c time) owner rank }
+-- a rank's blocks of a point, with what it has heard
+abbrev pub hand_at : Case → (p : Point) → (owner : BlockId → ℕ) → (rank : ℕ) → (heard : List StripValue) → Hand (List StripValue) LinkedBlock
+hand_at c p owner rank heard = record { rank = rank; known = heard; items = part_of (blocks_on c p) owner rank }
 
 -- a hand in a local, before the new snapshot is made
 abbrev pub local_of_hand : Case → Epoch → World BlockId → (rank : ℕ) → Hand (List StripValue) LinkedBlock → ForestLocal
@@ -59,7 +68,7 @@ local_of_hand c epoch world rank hand = record {
 
 -- the courses of the rounds
 abbrev pub step_course : Case → Epoch → (time : ℕ) → (owner : BlockId → ℕ) → Course (Hand (List StripValue) LinkedBlock) (List StripValue)
-step_course c epoch time owner = gathering step_play (λ peer msg. msg) (hand_at c time owner) epoch.members (λ rank. hand_at c time owner rank [])
+step_course c epoch time owner = gathering step_play (λ peer msg. msg) (hand_at c (ready c time) owner) epoch.members (λ rank. hand_at c (ready c time) owner rank [])
 
 abbrev pub course_in : Case → Epoch → Stage → World BlockId → Course ForestLocal Message
 course_in c epoch (Step time) world = lifted (local_of_hand c epoch world) StepMessage (step_course c epoch time world.owner)

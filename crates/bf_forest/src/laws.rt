@@ -15,6 +15,7 @@ ghost use Rattle.bf_stages.specs.Stages.{telling_of};
 ghost use Rattle.bf_id.specs.Id.{BlockId};
 ghost use Rattle.bf_case.specs.Map.{ids_of};
 ghost use Rattle.bf_case.specs.Model.{model};
+ghost use Rattle.bf_block.specs.Block.{map_at};
 ghost use Rattle.bf_forest.specs.declared.setup.Setup.{Setup};
 ghost use Rattle.bf_forest.specs.Setup.{case_of};
 ghost use Rattle.bf_forest.specs.declared.local.ForestLocal.{ForestLocal};
@@ -23,9 +24,10 @@ ghost use Rattle.bf_forest.specs.Goods.{IsGood, AreDealt, AreNeighbors, ArePartn
 ghost use Rattle.bf_forest.specs.Leaves.{AreLeaves, bare_blocks};
 ghost use Rattle.bf_forest.specs.Meanings.{forest, pieces};
 ghost use Rattle.bf_ghost.specs.Telling.{told_strips};
-ghost use Rattle.bf_stages.specs.Plans.{rounds_of, span};
-ghost use Rattle.bf_forest.specs.Stages.{forest_plan, time_at};
-ghost use Rattle.bf_forest.specs.Staging.{Runs, forest_staging};
+ghost use Rattle.bf_stages.specs.Plans.{rounds_of, span, stage_of};
+ghost use Rattle.bf_forest.specs.Stages.{forest_plan};
+ghost use Rattle.bf_forest.specs.Staging.{point_at, Runs, forest_staging};
+ghost use Rattle.bf_forest.specs.declared.stage.Stage.TheVariants.{Step};
 
 use crate::Forest;
 use bf_program::laws::the_lockstep_stays_good;
@@ -55,11 +57,11 @@ pub fn the_forest_stays_good()
     the_lockstep_stays_good::<Forest>();
 }
 
-/// At the beginning of each round the blocks of all members are the leaves of the model's map at that round's time, with
+/// At the beginning of each round the blocks of all members are the leaves of the model's map at that round's point, with
 /// its cells, each leaf once.
 pub fn the_blocks_are_the_models_leaves()
     ensures { (setup : Setup) (epoch : Epoch) (round : ℕ) (locals : List ForestLocal) → IsGood setup epoch round locals
-        → AreLeaves (model (case_of setup) (time_at epoch round)) (flat_map (λ (local : ForestLocal). bare_blocks local.blocks) locals) }
+        → AreLeaves (map_at (case_of setup) (point_at (case_of setup) epoch round)) (flat_map (λ (local : ForestLocal). bare_blocks local.blocks) locals) }
 {}
 
 /// The boxes of their blocks tile the domain: each unit of it lies in exactly one block of exactly one member, and no block reaches
@@ -78,7 +80,7 @@ pub fn good_vectors_are_those_dealt()
         ↔ (Runs (case_of setup) epoch × (owner : BlockId → ℕ) × (home : BlockId → ℕ) × AreDealt (case_of setup) epoch round owner home locals)) }
 {}
 
-/// A member's blocks are the model's leaves of the round's time that it owns, each linked with exactly the leaves that touch it and with
+/// A member's blocks are the model's leaves of the round's point that it owns, each linked with exactly the leaves that touch it and with
 /// their owners. Of the agreed snapshot it has those of which it is the home, and copies of those of the member whose buddy it is,
 /// linked with the leaves of the agreed time and their homes.
 pub fn each_block_is_linked_with_the_leaves_that_touch_it()
@@ -106,17 +108,17 @@ pub fn each_member_holds_its_parts_of_the_new_snapshot()
 
 /// In a step's round the peers of a member are the other members that own a leaf which touches one of its own.
 pub fn a_steps_peers_own_leaves_that_touch()
-    ensures { (setup : Setup) (epoch : Epoch) (round : ℕ) (owner home : BlockId → ℕ) (locals : List ForestLocal) (local : ForestLocal) (other : ℕ)
-        → AreDealt (case_of setup) epoch round owner home locals → round < span epoch → Contains locals local
-        → (Contains (forest.peers setup local epoch round) other ↔ (Contains epoch.members other × AreNeighbors (case_of setup) (time_at epoch round) owner local.rank other)) }
+    ensures { (setup : Setup) (epoch : Epoch) (round time : ℕ) (owner home : BlockId → ℕ) (locals : List ForestLocal) (local : ForestLocal) (other : ℕ)
+        → AreDealt (case_of setup) epoch round owner home locals → stage_of forest_plan epoch round ≡ Step time → Contains locals local
+        → (Contains (forest.peers setup local epoch round) other ↔ (Contains epoch.members other × AreNeighbors (case_of setup) (point_at (case_of setup) epoch round) owner local.rank other)) }
 {}
 
 /// And what it tells a rank are the strips of the model's leaves: one for each leaf of its own and each leaf of the other that share
 /// a face, by the ids of its own leaves and then of the other's, and nothing else.
 pub fn a_step_tells_what_lies_at_shared_faces()
-    ensures { (setup : Setup) (epoch : Epoch) (round : ℕ) (owner home : BlockId → ℕ) (locals : List ForestLocal) (local : ForestLocal) (to : ℕ)
-        → AreDealt (case_of setup) epoch round owner home locals → round < span epoch → Contains locals local
-        → (forest.out setup local epoch round to).1 ≡ Message.Step (told_strips (case_of setup).roots (model (case_of setup) (time_at epoch round)) owner local.rank to) }
+    ensures { (setup : Setup) (epoch : Epoch) (round time : ℕ) (owner home : BlockId → ℕ) (locals : List ForestLocal) (local : ForestLocal) (to : ℕ)
+        → AreDealt (case_of setup) epoch round owner home locals → stage_of forest_plan epoch round ≡ Step time → Contains locals local
+        → (forest.out setup local epoch round to).1 ≡ Message.Step (told_strips (case_of setup).roots (map_at (case_of setup) (point_at (case_of setup) epoch round)) owner local.rank to) }
 {}
 
 /// In the snapshot's round the peers of a member are its buddy and the member whose buddy it is, other than itself.

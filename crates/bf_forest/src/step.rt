@@ -1,18 +1,32 @@
 //! A step of a rank's blocks.
-ghost use Rattle.std.specs.Prelude.{◌≡◌, [], ℕ, All, IfOk, OnOk, map};
+ghost use Rattle.std.specs.Prelude.{◌≡◌, [], ℕ, All, Contains, IfOk, OnOk, map};
 ghost use Rattle.std.specs.List.{zip};
+ghost use Rattle.bf_block.specs.Block.{after_regrid, kept_block, map_at};
+ghost use Rattle.bf_case.specs.Map.{ids_of};
 ghost use Rattle.bf_forest.specs.Setup.{case_of};
 ghost use Rattle.bf_forest.specs.Ready.{IsBetween, IsPairBetween, IsReady};
 ghost use Rattle.bf_forest.specs.Rounds.{stepped_all, stepped_between, stepped_pair};
 
 use crate::strips::{grouped, tell_all};
 use crate::{ForestLocal, Setup};
-use bf_block::Memory;
+use bf_block::{Block, Memory};
 use bf_cells::Shell;
 use bf_ghost::{Strip, step as step_between};
 use bf_items::Items;
 use bf_msg::LinkedBlock;
 use std::alloc::Global;
+
+// The block behind its time's regrid: one that none has changed is kept.
+fn regridded(block: Block) -> Block
+    requires { Contains (ids_of (map_at block.case (after_regrid block.point.time))) block.id }
+    ensures { result ≡ kept_block block }
+{
+    if block.point().regridded {
+        block
+    } else {
+        block.kept()
+    }
+}
 
 // A block one step later, between what it is told.
 fn stepped(
@@ -28,7 +42,7 @@ fn stepped(
     ensures side { shell.new.side ≡ shell.old.side }
 {
     let LinkedBlock { block, links } = linked;
-    match step_between(alloc, shell, block.kept(), strips) {
+    match step_between(alloc, shell, regridded(block), strips) {
         Ok(block) => {
             let _model = block.cells();
             Ok(LinkedBlock { block, links })

@@ -1,7 +1,7 @@
 use Rattle.std.proofs.Common.{rules, Bor}
-use Rattle.std.proofs.lemmas.List.Sorted.{IsPermutation-map, IsNonDecreasingBy-from_sort_by_key}
+use Rattle.std.proofs.lemmas.List.Sorted.{answers_always, IsPermutation-map}
 use Rattle.bf_block.specs.Block.{BlockValue}
-use Rattle.bf_driven.proofs.LeafLemmas.{nondecreasing_map}
+use Rattle.bf_driven.proofs.LeafLemmas.{sorted_map}
 use Rattle.bf_driven.proofs.parcels.sort.Goals as goal
 
 pub returns-clause-same : goal.returns-clause-same
@@ -10,6 +10,5 @@ returns-clause-same c =
 
 pub returns-clause-rising : goal.returns-clause-rising
 returns-clause-rising c =
-    nondecreasing_map (λ (block : BlockValue). block.id.root) (λ (block : Bor BlockValue). block.now) c.sort_unstable_by_key.new.self
-    (IsNonDecreasingBy-from_sort_by_key (λ (block : Bor BlockValue). block.now.id.root) c.sort_unstable_by_key.new.self c.sort_unstable_by_key.ensures.sorted
-    (λ a r f' k. search rules))
+    sorted_map (λ (block : Bor BlockValue). block.now) c.sort_unstable_by_key.new.self
+    (c.sort_unstable_by_key.ensures.sorted (λ (block : Bor BlockValue). block.now.id) (answers_always _ _ _ (λ f a r g called. search rules)))

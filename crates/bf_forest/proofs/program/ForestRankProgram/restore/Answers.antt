@@ -1,4 +1,4 @@
-use Rattle.std.proofs.Common.{◌≡◌, All, sym, subst}
+use Rattle.std.proofs.Common.{All, sym, subst}
 use Rattle.bf_snap.specs.Buffers.{TwoSides}
 use Rattle.bf_msg.specs.declared.linked_block.LinkedBlock.{LinkedBlock}
 use Rattle.bf_msg.specs.LinkedBlocks.{IsOwnedAmong}
