@@ -1,3 +1,4 @@
+mod HeirLemmas
 mod HeldLemmas
 mod LeafLemmas
 mod ParcelLemmas

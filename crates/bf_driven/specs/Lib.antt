@@ -2,3 +2,4 @@
 pub mod Parcels
 pub mod Held
 pub mod Losses
+pub mod Heirs

@@ -1,5 +1,5 @@
 //! What comes of a case that is run by its ranks, each law the contract of a call that does nothing.
-ghost use Rattle.std.specs.Prelude.{◌≡◌, ◌≤◌, ◌⊎◌, ℕ, IsTrue, IsPermutation, List, [], Some, None, is_some, map};
+ghost use Rattle.std.specs.Prelude.{◌≡◌, ◌≤◌, ◌⊎◌, ℕ, IsTrue, IsPermutation, List, [], ◌∷◌, ◌++◌, Some, None, is_some, map};
 ghost use Rattle.std.specs.List.{flat_map, list_any};
 ghost use Rattle.bf_case.specs.declared.case.Case.{Case};
 ghost use Rattle.bf_case.specs.Case.{IsValid};
@@ -9,7 +9,7 @@ ghost use Rattle.bf_core.specs.declared.outcome.Outcome.TheVariants.{Finished, M
 ghost use Rattle.bf_core.specs.Legal.{is_memory};
 ghost use Rattle.bf_core.specs.States.{is_finished};
 ghost use Rattle.bf_world.specs.Runs.{run_after, is_journal};
-ghost use Rattle.bf_world.specs.Worlds.{View, IsView, core_after};
+ghost use Rattle.bf_world.specs.Worlds.{View, IsView, brings_restore, core_after};
 ghost use Rattle.bf_owners.specs.Owners.{IsUnhurt, times_owned, all_ranks, live_ranks};
 ghost use Rattle.bf_id.specs.Cube.{Voxel};
 ghost use Rattle.bf_msg.specs.declared.linked_block.LinkedBlock.{LinkedBlock};
@@ -21,13 +21,15 @@ ghost use Rattle.bf_forest.specs.Setup.{case_of};
 ghost use Rattle.bf_forest.specs.Leaves.{AreLeaves, bare_blocks};
 ghost use Rattle.bf_forest.specs.Meanings.{forest, pieces};
 ghost use Rattle.bf_rank.specs.Ranks.{last_decided};
+ghost use Rattle.bf_driven.specs.Heirs.{GivesToHeirs};
 ghost use Rattle.bf_driven.specs.Held.{AllHold, AllHoldUntilCommit, MustLeave, HadMemory};
 ghost use Rattle.bf_driven.specs.Losses.{EndsByDeaths};
 ghost use Rattle.bf_driven.specs.Parcels.{blocks_of, RiseById};
 
 use bf_forest::Forest;
 use bf_forest::laws::{
-    a_part_has_a_block_where_its_home_has_a_leaf, good_vectors_are_those_dealt,
+    a_part_has_a_block_where_its_home_has_a_leaf, a_restore_gives_heirs_their_blocks,
+    each_member_holds_its_parts_of_the_agreed_snapshot, good_vectors_are_those_dealt,
     some_home_has_a_block, the_blocks_are_the_models_leaves,
 };
 use bf_owners::laws::{each_unit_has_one_owner, no_unit_has_two_live_owners};
@@ -42,7 +44,7 @@ use bf_world::laws::{
 use bf_world::losses::{
     a_complete_run_has_a_last_decision, a_run_is_lost_exactly_where_both_holders_died,
 };
-use bf_world::snapshots::what_is_stored_is_in_the_first_locals;
+use bf_world::snapshots::{a_restore_gives_all_back, what_is_stored_is_in_the_first_locals};
 
 /// Whatever order the events took and whoever died: once a run has finished, the blocks of its parcels are the leaves of
 /// the model's last map with their cells, each leaf once.
@@ -65,6 +67,22 @@ pub fn each_epoch_begins_with_the_agreed_map()
 {
     each_epoch_begins_good::<Forest>();
     the_blocks_are_the_models_leaves();
+}
+
+/// A restore gives each block of the agreed snapshot to exactly one rank that lives, its heir: its home where that lives, else the home's
+/// buddy. There its cells are the model's at the agreed time, and its links name the leaves of that map that touch it, with their heirs as
+/// their owners. With these the next epoch begins, and each member keeps its parts of the agreed snapshot by the homes that the leaves have.
+pub fn a_restore_gives_each_block_to_its_heir()
+    ensures { (setup : Setup) (journal : List Event) (event : Event) → IsTrue (is_journal forest setup (journal ++ event ∷ []))
+        → IsTrue (brings_restore forest setup (run_after forest setup journal) event) → GivesToHeirs setup journal event }
+{
+    each_epoch_begins_good::<Forest>();
+    each_epoch_begins_with_the_agreed_map();
+    good_vectors_are_those_dealt();
+    each_member_holds_its_parts_of_the_agreed_snapshot();
+    what_is_stored_is_in_the_first_locals::<Forest>();
+    a_restore_gives_all_back::<Forest>();
+    a_restore_gives_heirs_their_blocks();
 }
 
 /// While a run goes on, each rank that does, and hasn't wanted memory, has its parts of the agreed snapshot: its own, and a copy of
