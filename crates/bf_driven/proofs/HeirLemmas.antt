@@ -1,7 +1,7 @@
 -- A restore gives each leaf of the agreed map to its heir.
 use Rattle.std.proofs.Common.{◌≡◌, ℕ, Bool, true, false, cond, not, ◌||◌, List, [], ◌∷◌, ◌++◌, map, filter, flat_map, Some, None, Contains, All, refl, sym, ap, subst, ◌∙◌}
-use Rattle.std.specs.Prelude.{◌==◌, ◌↔◌}
-use Rattle.std.proofs.lemmas.Bool.{eqb-true, eq-eqb}
+use Rattle.std.specs.Prelude.{◌==◌}
+use Rattle.std.proofs.lemmas.Bool.{eqb-true, eq-eqb, or_left, or_right}
 use Rattle.std.proofs.lemmas.List.{map-id}
 use Rattle.std.proofs.lemmas.List.Elements.{All-contains, All-map}
 use Rattle.bf_lemmas.proofs.Lists.{map_twice}
@@ -25,7 +25,7 @@ use Rattle.bf_world.specs.Losses.{has_died, survivors}
 use Rattle.bf_world.specs.Runs.{run_after}
 use Rattle.bf_world.specs.Snapshots.{RestoresAll}
 use Rattle.bf_world.specs.Worlds.{core_after}
-use Rattle.bf_parts.specs.Leaves.{AreAmong, part_of}
+use Rattle.bf_parts.specs.Leaves.{AreAmong}
 use Rattle.bf_rounds.proofs.VectorLemmas.{told_local}
 use Rattle.bf_stages.specs.Plans.{span}
 use Rattle.bf_forest.specs.declared.local.ForestLocal.{ForestLocal}
@@ -149,16 +149,13 @@ module _ (setup : Setup) (journal : List Event) (event : Event) (owner home : Bl
       (subst (λ (locals : List ForestLocal). local_of epoch.members locals once.heir ≡ Some once.given.0) dealt.are once.given.1.1) in
       member_filter_from lives epoch.members once.heir seat.0 once.given.1.0
 
-  either : (one other : Bool) → other ≡ true → (one || other) ≡ true
-  either true other is = refl
-  either false other is = is
-
   -- so the home of a part or its buddy does
   holder_lives : (filled heir : ℕ) (b : Bool) → heir ≡ cond b filled (buddy_of epoch.homes filled (case_of setup).shift) → is_member live heir ≡ true
       → (is_member live filled || is_member live (buddy_of epoch.homes filled (case_of setup).shift)) ≡ true
-  holder_lives filled heir true is member = rw (subst (λ rank. is_member live rank ≡ true) is member) refl
+  holder_lives filled heir true is member =
+      or_left (is_member live filled) (is_member live (buddy_of epoch.homes filled (case_of setup).shift)) (subst (λ rank. is_member live rank ≡ true) is member)
   holder_lives filled heir false is member =
-      either (is_member live filled) (is_member live (buddy_of epoch.homes filled (case_of setup).shift)) (subst (λ rank. is_member live rank ≡ true) is member)
+      or_right (is_member live filled) (is_member live (buddy_of epoch.homes filled (case_of setup).shift)) (subst (λ rank. is_member live rank ≡ true) is member)
 
   -- and no part is lost
   pub none_is_lost : (core_after forest setup journal).stored ≡ forest.stored before → first_lost_of epoch.homes (forest.stored before) live (case_of setup).shift ≡ None

@@ -1,6 +1,5 @@
-use Rattle.std.proofs.Common.{◌≡◌, true, [], ◌∷◌, ◌++◌, ◌∙◌, filter, not, sym, List}
+use Rattle.std.proofs.Common.{◌≡◌, true, not, [], ◌∷◌, ◌++◌, ◌∙◌, sym}
 use Rattle.std.proofs.lemmas.Bool.{and_parts}
-use Rattle.bf_program.specs.Epochs.{epoch_after_restore}
 use Rattle.bf_forest.specs.Meanings.{forest}
 use Rattle.bf_world.proofs.RunLemmas.{journal_joined}
 use Rattle.bf_world.specs.Losses.{has_died}
