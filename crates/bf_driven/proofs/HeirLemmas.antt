@@ -1,5 +1,5 @@
 -- A restore gives each leaf of the agreed map to its heir.
-use Rattle.std.proofs.Common.{◌≡◌, ℕ, Bool, true, false, cond, not, ◌||◌, List, [], ◌∷◌, ◌++◌, map, filter, flat_map, Some, None, Contains, All, refl, sym, ap, subst, ◌∙◌}
+use Rattle.std.proofs.Common.{◌≡◌, ℕ, ◌+◌, arith, Bool, true, false, cond, not, ◌||◌, List, [], ◌∷◌, ◌++◌, map, filter, flat_map, Some, None, Contains, All, refl, sym, ap, subst, ◌∙◌}
 use Rattle.std.specs.Prelude.{◌==◌}
 use Rattle.std.proofs.lemmas.Bool.{eqb-true, eq-eqb, or_left, or_right}
 use Rattle.std.proofs.lemmas.List.{map-id}
@@ -25,18 +25,20 @@ use Rattle.bf_world.specs.Losses.{has_died, survivors}
 use Rattle.bf_world.specs.Runs.{run_after}
 use Rattle.bf_world.specs.Snapshots.{RestoresAll}
 use Rattle.bf_world.specs.Worlds.{core_after}
-use Rattle.bf_parts.specs.Leaves.{AreAmong}
+use Rattle.bf_parts.specs.Leaves.{AreAmong, part_of}
 use Rattle.bf_rounds.proofs.VectorLemmas.{told_local}
-use Rattle.bf_stages.specs.Plans.{span}
+use Rattle.bf_stages.specs.Plans.{span, stage_of}
+use Rattle.bf_block.specs.declared.point.Point.{Point}
+use Rattle.bf_block.specs.Block.{before_regrid}
 use Rattle.bf_forest.specs.declared.local.ForestLocal.{ForestLocal}
 use Rattle.bf_forest.specs.declared.setup.Setup.{Setup}
 use Rattle.bf_forest.specs.Goods.{local_at, AreDealt, HasAgreed, HasLeaf, IsPart}
 use Rattle.bf_forest.specs.Leaves.{AreLeaves, bare_blocks}
 use Rattle.bf_forest.specs.Meanings.{forest}
-use Rattle.bf_forest.specs.ModelBlocks.{blocks_at}
-use Rattle.bf_forest.specs.Setup.{case_of, every_setup_keeps_roots}
-use Rattle.bf_forest.specs.StageLaws.{time_first}
-use Rattle.bf_forest.specs.Stages.{time_at}
+use Rattle.bf_forest.specs.ModelBlocks.{blocks_at, blocks_on}
+use Rattle.bf_forest.specs.Setup.{case_of, every_setup_is_valid}
+use Rattle.bf_forest.specs.StageLaws.{point_first}
+use Rattle.bf_forest.specs.Staging.{point_at}
 use Rattle.bf_forest.specs.StripLaws.{member_contains}
 use Rattle.bf_forest.specs.VectorLaws.{parts_at}
 use Rattle.bf_driven.specs.Heirs.{AreAtOwners, GivesToHeirs, HasBlock, leaf_heir}
@@ -52,7 +54,7 @@ dealt_seats c epoch round owner home locals dealt =
 -- as an epoch begins, its number and what began it make no difference
 dealt_alike : (c : Case) (epoch other : Epoch) (owner home : BlockId → ℕ) (locals : List ForestLocal) → epoch.time ≡ other.time → epoch.target ≡ other.target
     → epoch.members ≡ other.members → epoch.homes ≡ other.homes → AreDealt c epoch 0 owner home locals → AreDealt c other 0 owner home locals
-unfolding span time_at
+unfolding span stage_of point_at
 dealt_alike c epoch other owner home locals time target members homes dealt =
     let renamed : Epoch = record epoch { number = other.number; restored = other.restored } in
     let same : renamed ≡ other =
@@ -64,44 +66,45 @@ dealt_alike c epoch other owner home locals time target members homes dealt =
 -- who is the home of a leaf is one of the homes among which all leaves have theirs
 pub leaf_housed : (c : Case) (time : ℕ) (homes : List ℕ) (home : BlockId → ℕ) (rank : ℕ) → AreAmong homes (blocks_at c time) home → HasLeaf c time home rank
     → (is_member homes rank ≡ true) × HasLeaf c time home rank
-unfolding blocks_at
+unfolding blocks_on
 leaf_housed c time homes home rank housed has =
     (subst (λ r. is_member homes r ≡ true) has.1.1 (All-contains (λ i. is_member homes (home i) ≡ true) (ids_of (model c time)) has.0 housed has.1.0), has)
 
 -- as an epoch begins, the leaves are at their owners
-module _ (setup : Setup) (epoch : Epoch) (owner home : BlockId → ℕ) (locals : List ForestLocal) (dealt : AreDealt (case_of setup) epoch 0 owner home locals) where
+module _ (setup : Setup) (epoch : Epoch) (owner home : BlockId → ℕ) (locals : List ForestLocal) (dealt : AreDealt (case_of setup) epoch 0 owner home locals)
+    (first : point_at (case_of setup) epoch 0 ≡ before_regrid epoch.time) where
   abbrev ids : List BlockId
   ids = ids_of (model (case_of setup) epoch.time)
 
-  abbrev HasPart : (time : ℕ) → ForestLocal → Type 0
-  HasPart time local = IsPart (case_of setup) time owner local.rank local.blocks
+  abbrev HasPart : ForestLocal → Type 0
+  HasPart local = IsPart (case_of setup) epoch.time owner local.rank local.blocks
 
   owned_first : AreAmong epoch.members (blocks_at (case_of setup) epoch.time) owner
-  owned_first = subst (λ time. AreAmong epoch.members (blocks_at (case_of setup) time) owner) (time_first epoch) dealt.owned
+  owned_first = subst (λ (p : Point). AreAmong epoch.members (blocks_on (case_of setup) p) owner) first dealt.owned
 
-  parts_first : All (HasPart epoch.time) locals
+  parts_first : All HasPart locals
   parts_first =
-      subst (λ time. All (HasPart time) locals) (time_first epoch)
-      (subst (All (HasPart (time_at epoch 0))) (sym dealt.are)
-      (All-map (HasPart (time_at epoch 0)) (local_at (case_of setup) epoch 0 owner home) epoch.members
-      (all_members (λ rank. HasPart (time_at epoch 0) (local_at (case_of setup) epoch 0 owner home rank)) epoch.members (λ rank member.
-      (parts_at (case_of setup) (time_at epoch 0) epoch.members owner rank (every_setup_keeps_roots setup) dealt.held.members_rise member).own))))
+      subst (All HasPart) (sym dealt.are)
+      (All-map HasPart (local_at (case_of setup) epoch 0 owner home) epoch.members
+      (all_members (λ rank. HasPart (local_at (case_of setup) epoch 0 owner home rank)) epoch.members (λ rank member.
+      subst (λ (p : Point). IsPart (case_of setup) epoch.time owner rank (part_of (blocks_on (case_of setup) p) owner rank)) (sym first)
+      (parts_at (case_of setup) epoch.time epoch.members owner rank (every_setup_is_valid setup) dealt.held.members_rise member).own)))
 
   -- who has a leaf's block is its owner
   is_owner : (leaf : BlockId) (rank : ℕ) → HasBlock locals rank leaf → rank ≡ owner leaf
   is_owner leaf rank has =
-      let part = All-contains (HasPart epoch.time) locals has.local parts_first has.among in
+      let part = All-contains HasPart locals has.local parts_first has.among in
       let its = Contains-filter_cases (λ i. owner i == has.local.rank) ids leaf (subst (λ (found : List BlockId). Contains found leaf) part.ids has.has) in
       sym has.its ∙ sym (eqb-true (owner leaf) has.local.rank its.1)
 
   -- and a leaf's owner has it
   owner_has : (leaf : BlockId) → Contains ids leaf → (rank : ℕ) → rank ≡ owner leaf → HasBlock locals rank leaf
-  unfolding blocks_at
+  unfolding blocks_on
   owner_has leaf there rank is =
       let member : is_member epoch.members (owner leaf) ≡ true = All-contains (λ i. is_member epoch.members (owner i) ≡ true) ids leaf owned_first there in
       let seat = Contains-map_cases (λ (local : ForestLocal). local.rank) locals (owner leaf)
       (subst (λ (ranks : List ℕ). Contains ranks (owner leaf)) (sym (dealt_seats (case_of setup) epoch 0 owner home locals dealt)) (member_contains epoch.members (owner leaf) member)) in
-      let part = All-contains (HasPart epoch.time) locals seat.0 parts_first seat.1 in
+      let part = All-contains HasPart locals seat.0 parts_first seat.1 in
       record {
         local = seat.0;
         among = seat.1;
@@ -119,6 +122,11 @@ module _ (setup : Setup) (epoch : Epoch) (owner home : BlockId → ℕ) (locals 
     alone = λ leaf there rank. (λ has. is_owner leaf rank has, λ is. owner_has leaf there rank is);
     once = leaves;
   }
+
+-- a repair makes no step
+repairs_nowhere : (ranks : List ℕ) (epoch : Epoch) → (epoch_after_restore ranks epoch).time + span (epoch_after_restore ranks epoch) ≡ (epoch_after_restore ranks epoch).target
+unfolding span
+repairs_nowhere ranks epoch = omega arith
 
 -- at an event that brings a restore
 module _ (setup : Setup) (journal : List Event) (event : Event) (owner home : BlockId → ℕ)
@@ -192,6 +200,7 @@ module _ (setup : Setup) (journal : List Event) (event : Event) (owner home : Bl
       housed = dealt.housed;
       held = held;
       given = at_owners setup (epoch_after_restore left epoch) (leaf_heir setup journal event home) home after heirs_dealt
+          (point_first setup (epoch_after_restore left epoch) (repairs_nowhere left epoch))
           (subst (λ time. AreLeaves (model (case_of setup) time) (flat_map (λ (local : ForestLocal). bare_blocks local.blocks) after)) all.agreed.time leaves);
       dealt = dealt_alike (case_of setup) (epoch_after_restore left epoch) (core_after forest setup (journal ++ event ∷ [])).epoch (leaf_heir setup journal event home) home after
           (sym all.agreed.time) (sym (all.target ∙ all.agreed.time)) (sym all.members) (sym all.agreed.homes) heirs_dealt;

@@ -1,13 +1,12 @@
 -- Blocks that are the leaves of a map, in order.
-use Rattle.std.proofs.Common.{◌≡◌, ℕ, zero, suc, ◌+◌, ◌<◌, ◌≤◌, Bool, true, false, cond, List, [], ◌∷◌, ◌⊎◌, inl, inr, length, get_or, map, refl, ap, sym, subst, ◌∙◌, arith, All, Contains, zero-add}
+use Rattle.std.proofs.Common.{◌≡◌, ℕ, zero, suc, ◌+◌, ◌<◌, ◌≤◌, true, false, cond, List, [], ◌∷◌, ◌⊎◌, inl, inr, length, get_or, map, refl, ap, sym, subst, ◌∙◌, arith, All, Contains, zero-add}
 use Rattle.std.specs.Prelude.{AllPairs, Some, IsPermutation}
 use Rattle.std.specs.Ordering.{is_lt}
 use Rattle.std.specs.List.Sorted.{IsSortedByKey}
 use Rattle.std.proofs.lemmas.Bool.{false_from_ne_true}
-use Rattle.std.proofs.lemmas.Cmp.{ranks_by}
 use Rattle.std.proofs.lemmas.List.{ext_get_or, get_or_default, length-map, get_or-map}
 use Rattle.std.proofs.lemmas.List.Elements.{All-contains, All-head, All-tail, All-weaker}
-use Rattle.std.proofs.lemmas.List.Sorted.{All-permutation, sorted_far, sum_by-IsPermutation}
+use Rattle.std.proofs.lemmas.List.Sorted.{All-permutation, ranks_by, sorted_far, sum_by-IsPermutation}
 use Rattle.std.proofs.lemmas.Option.{same_Some}
 use Rattle.bf_lemmas.proofs.Lists.{All-from_Contains}
 use Rattle.bf_id.specs.Id.{BlockId, id_cmp, id_eq}
@@ -15,7 +14,6 @@ use Rattle.bf_id.specs.Walk.{IsBefore}
 use Rattle.bf_id.proofs.Boxes.{id_eq_is_equal}
 use Rattle.bf_id.proofs.Rising.{id_cmp_total}
 use Rattle.bf_id.proofs.Tilings.{Contains-cons_cases, Contains-head, Contains-none, Contains-tail}
-use Rattle.bf_cells.specs.Grid.{Grid}
 use Rattle.bf_case.specs.Around.{nothing}
 use Rattle.bf_case.specs.Map.{Leaf, cells_at, ids_of}
 use Rattle.bf_case.proofs.ListLemmas.{Contains-map, Contains-map_cases}
@@ -45,7 +43,7 @@ none_back blocks rise i j d before within =
 -- one that has an id counts, and what is counted is there
 counts : (blocks : List BlockValue) (b : BlockValue) → Contains blocks b → 1 ≤ times_among blocks b.id
 counts blocks b has =
-    one_counts (λ (x : BlockValue). id_eq x.id b.id) blocks has.0 b has.1.0 ((id_eq_is_equal (get_or blocks has.0 b).id b.id).1 (ap (λ (x : BlockValue). x.id) has.1.1))
+    one_counts (λ (x : BlockValue). id_eq x.id b.id) blocks has.0 b has.1 ((id_eq_is_equal (get_or blocks has.0 b).id b.id).1 (ap (λ (x : BlockValue). x.id) has.2))
 
 module _ (i : BlockId) (ids : List BlockId) (b : BlockValue) (blocks : List BlockValue) (rise : AllPairs IsBefore (i ∷ ids)) (back : NoneBack (b ∷ blocks))
     (only : All (λ (x : BlockValue). Contains (i ∷ ids) x.id) (b ∷ blocks)) (each : (j : BlockId) → Contains (i ∷ ids) j → times_among (b ∷ blocks) j ≡ 1) where
@@ -71,7 +69,7 @@ module _ (i : BlockId) (ids : List BlockId) (b : BlockValue) (blocks : List Bloc
           let found = some_counted (λ (x : BlockValue). id_eq x.id i) blocks (omega (arith, one)) in
           let at : found.0.id ≡ i = (id_eq_is_equal found.0.id i).0 found.2 in
           let not_less : is_lt (id_cmp found.0.id b.id) ≡ false =
-          subst (λ (x : BlockValue). is_lt (id_cmp x.id b.id) ≡ false) found.1.1.1 (back 0 (suc found.1.0) found.0 (omega arith) (omega (arith, found.1.1.0))) in
+          subst (λ (x : BlockValue). is_lt (id_cmp x.id b.id) ≡ false) found.1.2 (back 0 (suc found.1.0) found.0 (omega arith) (omega (arith, found.1.1))) in
           absurd (let wrong : true ≡ false = sym (ap is_lt (ap (λ j. id_cmp j b.id) at ∙ before)) ∙ not_less in cc)
 
   later_only : All (λ (x : BlockValue). Contains ids x.id) blocks
