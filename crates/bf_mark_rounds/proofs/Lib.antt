@@ -8,3 +8,7 @@ pub mod FirstLemmas
 pub mod ReachLemmas
 pub mod TellLemmas
 pub mod ViewLemmas
+pub mod SequenceLemmas
+pub mod AllRoundLemmas
+pub mod KeepLemmas
+pub mod ChainRowLemmas

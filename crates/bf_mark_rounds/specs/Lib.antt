@@ -4,3 +4,7 @@ pub mod Shares
 pub mod Plays
 pub mod FirstRound
 pub mod Views
+pub mod Sequences
+pub mod AllRounds
+pub mod Keeping
+pub mod ChainRow

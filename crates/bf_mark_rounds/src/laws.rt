@@ -2,25 +2,37 @@
 //!
 //! They hold for every list of members in rising order, and every owner map whose owners are members. A round leads on in that
 //! the lockstep of a program that plays so leads from the one vector of locals to the other.
-ghost use Rattle.std.specs.Prelude.{◌≡◌, ◌<◌, ◌≤◌, ◌⊎◌, ◌↔◌, ℕ, suc, All, AllPairs, Contains, IsTrue, List, filter};
+ghost use Rattle.std.specs.Prelude.{◌≡◌, ◌<◌, ◌≤◌, ◌⊎◌, ◌↔◌, ℕ, suc, All, AllPairs, Bool, Contains, IsTrue, List, [], ◌∷◌, filter, length, map};
 ghost use Rattle.std.specs.List.{list_all};
 ghost use Rattle.std.specs.List.Sorted.{IsStrictlyIncreasing};
-ghost use Rattle.bf_id.specs.Id.{children_of, level_of, parent_of, BlockId};
+ghost use Rattle.bf_id.specs.Id.{child_of, children_of, level_of, parent_of, root_id, BlockId};
 ghost use Rattle.bf_id.specs.Walk.{IsBefore};
 ghost use Rattle.bf_id.specs.declared.shape.Shape.{Shape};
+ghost use Rattle.bf_program.specs.Meanings.{Meanings};
+ghost use Rattle.bf_program.specs.declared.epoch.Epoch.{Epoch};
 ghost use Rattle.bf_case.specs.Balanced.{AreBalancedLeaves};
+ghost use Rattle.bf_case.specs.Case.{IsValid};
+ghost use Rattle.bf_case.specs.Map.{ids_of, Leaf};
 ghost use Rattle.bf_case.specs.Merging.{merges};
+ghost use Rattle.bf_case.specs.Model.{model_at};
 ghost use Rattle.bf_case.specs.Refinement.{is_among, refined_ids, refined_within, Chain};
 ghost use Rattle.bf_case.specs.Regrid.{target_of};
-ghost use Rattle.bf_case.specs.Wishes.{Wishes};
-ghost use Rattle.bf_mark_rounds.specs.FirstRound.{first_course, first_play, marked_at, unmarked_at, wished_at, wished_course};
+ghost use Rattle.bf_case.specs.Rows.{second_child, two_roots};
+ghost use Rattle.bf_case.specs.Wishes.{wishes_of, Wishes};
+ghost use Rattle.bf_case.specs.declared.case.Case.{Case};
+ghost use Rattle.bf_case.specs.declared.target.Target.TheVariants.{Keep, Refine};
+ghost use Rattle.bf_mark_rounds.specs.AllRounds.{all_plays, KnowTargets};
+ghost use Rattle.bf_mark_rounds.specs.ChainRow.{chain_ids, chain_marks, chain_wishes};
+ghost use Rattle.bf_mark_rounds.specs.FirstRound.{first_course, first_play, marked_at, unmarked_at, wished_at, wished_course, Beginning, Wishing};
+ghost use Rattle.bf_mark_rounds.specs.Keeping.{CanBeMarked, HasLeaves, Keeps};
 ghost use Rattle.bf_mark_rounds.specs.Neighbors.{is_near, is_neighbor, is_other, is_own, AreOwned};
 ghost use Rattle.bf_mark_rounds.specs.Plays.{flag_play, force_play, force_told, last_force_play, level_told, marking_course, marking_peers, may_play, merges_play};
+ghost use Rattle.bf_mark_rounds.specs.Sequences.{after_rounds, LeadThrough, PlaysFrom};
 ghost use Rattle.bf_mark_rounds.specs.Shares.{forced_after, found_below, marking_at, may_merge_in, mays_below, next_level, share, told_after, Marked, Marking, StopsAbove};
 ghost use Rattle.bf_mark_rounds.specs.Views.{viewed, viewed_course, IsMarkView, MarkView};
 ghost use Rattle.bf_marks.specs.Marks.{target_by, MarksValue};
-ghost use Rattle.bf_marks.specs.declared.flag.Flag.{Flag};
 ghost use Rattle.bf_marks.specs.declared.flag.Flag.TheVariants.{May, Merges, Refined};
+ghost use Rattle.bf_marks.specs.declared.flag.Flag.{Flag};
 ghost use Rattle.bf_rounds.specs.Delivering.{as_delivery};
 ghost use Rattle.bf_rounds.specs.Gathering.{Play};
 ghost use Rattle.bf_rounds.specs.Leading.{LeadsBy};
@@ -138,4 +150,48 @@ pub fn marks_in_a_larger_local_lead_on<L>()
         → LeadsBy (as_delivery play) members (marking_course shape ids w owner flag play told all members) (marking_at shape ids w owner told all) after
         → LeadsBy (viewed view play) members (viewed_course with (marking_course shape ids w owner flag play told all members))
         (λ rank. with rank (share shape ids w owner told all rank)) (λ rank. with rank (after rank).marks) }
+{}
+
+/// All rounds, from ranks that have no marks: as many force rounds as there are levels, and two rounds for each level from the finest to
+/// level 1. They lead on one after another, so the lockstep of a program that plays them leads to marks by which each rank knows what
+/// becomes of its own leaves, and of those that touch one of them.
+pub fn all_rounds_find_the_targets<S, T, R>()
+    ensures lead { (shape : Shape) (levels : ℕ) (ids : List BlockId) (w : Wishes) (owner : BlockId → ℕ) (members : List ℕ)
+        → AreBalancedLeaves shape levels ids → 1 ≤ levels → levels ≤ 4 → StopsAbove ids w levels → IsStrictlyIncreasing members → AreOwned ids owner members
+        → LeadThrough (all_plays levels) members (unmarked_at shape ids w owner)
+        (marked_at shape ids w owner (marking_at shape ids w owner (found_below shape ids w 0 0) (found_below shape ids w 0 0))) }
+    ensures find { (m : Meanings S Beginning (List BlockId) T R) (setup : S) (epoch : Epoch) (round : ℕ)
+        (shape : Shape) (levels : ℕ) (ids : List BlockId) (w : Wishes) (owner : BlockId → ℕ)
+        → AreBalancedLeaves shape levels ids → 1 ≤ levels → levels ≤ 4 → StopsAbove ids w levels → IsStrictlyIncreasing epoch.members → AreOwned ids owner epoch.members
+        → PlaysFrom m setup epoch round (all_plays levels)
+        → KnowTargets shape ids w owner epoch.members
+        (after_rounds m setup epoch round (length (all_plays levels)) (map (unmarked_at shape ids w owner) epoch.members)) }
+{}
+
+/// As many force rounds as levels are needed. Here a chain leads from level 2 to a root, and the case has three levels. After two force
+/// rounds the rank of level 1 has not heard that the root beside its leaf is refined, and takes it for one that stays; after one, the
+/// root's own rank doesn't know it either.
+pub fn fewer_force_rounds_are_not_enough()
+    ensures map { AreBalancedLeaves two_roots.roots 3 chain_ids × StopsAbove chain_ids chain_wishes 3 }
+    ensures heard { ((chain_marks 2 1).refined.heard ≡ child_of second_child 0 ∷ [])
+        × (filter (is_other two_roots.roots chain_ids level_of 1) (refined_ids two_roots.roots chain_ids chain_wishes) ≡ root_id 0 ∷ child_of second_child 0 ∷ []) }
+    ensures target { (target_by (chain_marks 2 1) (root_id 0) ≡ Keep) × (target_of two_roots.roots chain_ids chain_wishes (root_id 0) ≡ Refine) }
+    ensures own { ((chain_marks 1 0).refined.own ≡ [])
+        × (filter (is_own level_of 0) (refined_ids two_roots.roots chain_ids chain_wishes) ≡ root_id 0 ∷ []) }
+{}
+
+/// Marks don't move leaves: through each call of each round, a rank's leaves stay the same, and so do those of them that wish to be
+/// coarsened, and what the marks were made of.
+pub fn marking_keeps_all_items()
+    ensures { (levels : ℕ) (its : Wishing) (leaves coarser : List BlockId) → All (Keeps (HasLeaves its leaves coarser)) (all_plays levels) }
+{}
+
+/// Each map of the model, with the case's wishes, is one of which the laws of the rounds speak. And what the calls of marks ask for
+/// holds where the rounds begin, and stays through each call: the leaves rise, a wish stands beside each, and there are links for each.
+pub fn balanced_maps_can_be_marked()
+    ensures maps { (c : Case) (time : ℕ) (after : Bool) → IsValid c → AreBalancedLeaves c.roots c.levels (ids_of (model_at c time after)) × (c.levels ≤ 4) }
+    ensures wishes { (c : Case) (leaves : List Leaf) → StopsAbove (ids_of leaves) (wishes_of c leaves) c.levels }
+    ensures begin { (shape : Shape) (levels : ℕ) (ids : List BlockId) (w : Wishes) (owner : BlockId → ℕ) (rank : ℕ)
+        → AreBalancedLeaves shape levels ids → CanBeMarked (unmarked_at shape ids w owner rank) }
+    ensures go_on { (levels : ℕ) → All (Keeps CanBeMarked) (all_plays levels) }
 {}
