@@ -1,13 +1,15 @@
 -- Marks by their fields.
-use Rattle.std.proofs.Common.{◌≡◌, ℕ, ◌<◌, Bool, true, false, ◌&&◌, List, [], ◌∷◌, ◌⊎◌, inl, inr, Contains, map, length, replicate, refl, ap, ◌∙◌, subst, sym}
+use Rattle.std.proofs.Common.{◌≡◌, ℕ, ◌<◌, ◌==◌, Bool, true, false, ◌&&◌, ◌||◌, List, [], ◌∷◌, ◌⊎◌, inl, inr, Contains, map, length, replicate, refl, ap, ◌∙◌, subst, sym}
 use Rattle.std.specs.Prelude.{Some, slice_get}
-use Rattle.std.specs.List.{list_all}
+use Rattle.std.specs.List.{list_all, list_any}
 use Rattle.std.proofs.Math.ListN.{get_or}
-use Rattle.bf_id.specs.Id.{BlockId, child_of, children_of}
+use Rattle.bf_id.specs.Id.{BlockId, child_of, children_of, level_of}
 use Rattle.bf_id.proofs.Tilings.{Contains-cons_cases, Contains-none, Contains-child, Contains-child_cases}
 use Rattle.bf_case.specs.Refinement.{is_among}
 use Rattle.bf_case.proofs.MergingRule.{all_from_each}
+use Rattle.bf_links.specs.declared.link.Link.{Link}
 use Rattle.bf_marks.specs.FlagFields.{flagged_by, with_flag}
+use Rattle.bf_marks.specs.Flags.{Flagged, is_flagged}
 use Rattle.bf_marks.specs.Marks.{MarksValue, first_marks}
 use Rattle.bf_marks.specs.KnownFields.{marks_in, IsAligned}
 use Rattle.bf_marks.specs.Wishes.{is_coarsen, is_refine}
@@ -56,3 +58,19 @@ child_fails test p o octal fails = all_fails test (children_of p) (child_of p o)
 
 pub children_pass : (test : BlockId → Bool) (p : BlockId) → ((o : ℕ) → o < 8 → test (child_of p o) ≡ true) → list_all test (children_of p) ≡ true
 children_pass test p each = all_from_each test (children_of p) (λ j has. let of = Contains-child_cases p j has in subst (λ j. test j ≡ true) (sym of.2) (each of.0 of.1))
+
+-- where no leaf has a flag no linked one has it
+pub none_beside : (flagged : Flagged) (level : ℕ) (links : List Link) → flagged.own ≡ [] → flagged.heard ≡ []
+    → false ≡ list_any (λ (link : Link). level_of link.id == level && is_flagged flagged link.id) links
+none_beside flagged level [] unset unheard = refl
+none_beside flagged level (link ∷ links) unset unheard = by (level_of link.id == level) (none_beside flagged level links unset unheard)
+  where
+    rest : Bool
+    rest = list_any (λ (link : Link). level_of link.id == level && is_flagged flagged link.id) links
+
+    unflagged_there : is_flagged flagged link.id ≡ false
+    unflagged_there = rw (unset, unheard) refl
+
+    by : (b : Bool) → false ≡ rest → false ≡ ((b && is_flagged flagged link.id) || rest)
+    by true later = rw unflagged_there later
+    by false later = later

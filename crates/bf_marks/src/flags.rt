@@ -25,10 +25,10 @@ fn has_some(flags: &[bool]) -> bool
 }
 
 impl Flags {
-    ghost use Rattle.std.specs.Prelude.{[], length, AllPairs, OnOk, OnErr};
+    ghost use Rattle.std.specs.Prelude.{[], length, AllPairs, IsTrue, List, OnOk, OnErr};
     ghost use Rattle.std.specs.BTreeSet.{insert_key};
     ghost use Rattle.bf_case.specs.Refinement.{is_among};
-    ghost use Rattle.bf_id.specs.Id.{id_cmp};
+    ghost use Rattle.bf_id.specs.Id.{id_cmp, BlockId};
     ghost use Rattle.bf_id.specs.Walk.{IsBefore};
     ghost use Rattle.bf_marks.specs.FlagFields.{flagged_by, with_flag};
     ghost use Rattle.bf_marks.specs.Flags.{is_flagged};
@@ -81,22 +81,28 @@ impl Flags {
         self.heard.contains(&id)
     }
 
-    /// Whether a leaf has the flag, as far as is known. The own leaves are given by rising id.
-    pub(crate) fn has(&self, leaves: &[Id], id: Id) -> bool
-        requires rising { AllPairs IsBefore leaves.now }
-        requires aligned { length self.now.own.items ≡ length leaves.now }
-        ensures { result ≡ is_flagged (flagged_by leaves.now self.now) id }
-    {
-        self.is_own(leaves, id) || self.is_heard(id)
-    }
-
-    /// The same, where the leaf is looked for at a place first.
-    pub(crate) fn has_near(&self, leaves: &[Id], id: Id, place: usize) -> bool
+    /// Whether a leaf has the flag, as far as is known. The own leaves are given by rising id, and the leaf is looked for at
+    /// a place first.
+    pub(crate) fn has(&self, leaves: &[Id], id: Id, place: usize) -> bool
         requires rising { AllPairs IsBefore leaves.now }
         requires aligned { length self.now.own.items ≡ length leaves.now }
         ensures { result ≡ is_flagged (flagged_by leaves.now self.now) id }
     {
         self.is_own_near(leaves, id, place) || self.is_heard(id)
+    }
+
+    /// Whether no own leaf has the flag.
+    pub(crate) fn is_unset(&self) -> bool
+        ensures { IsTrue result → (leaves : List BlockId) → with_flag leaves self.now.own.items ≡ [] }
+    {
+        !self.some
+    }
+
+    /// Whether the flag was heard of no leaf.
+    pub(crate) fn is_unheard(&self) -> bool
+        ensures { IsTrue result → self.now.heard.keys ≡ [] }
+    {
+        self.heard.is_empty()
     }
 
     /// Takes other flags of the own leaves, and gives those that they had.

@@ -13,6 +13,8 @@ ghost use Rattle.bf_marks.specs.Rounds.{finer_merge, is_calm, is_forced, may_mer
 
 use crate::flag::Flag;
 use crate::flags::Flags;
+use crate::has_links::HasLinks;
+use crate::hints::Hints;
 use crate::wishes::Wish;
 use bf_block::Memory;
 use bf_id::Id;
@@ -24,6 +26,7 @@ use std::marker::Model;
 #[derive(Drop)]
 pub(crate) struct Known {
     leaves: Vec<Id>,
+    hints: Hints,
     coarser: Vec<bool>,
     refined: Flags,
     may: Flags,
@@ -82,6 +85,7 @@ impl Known {
         let merging = vec![in alloc; false; leaves.len()]?;
         Ok(Known {
             leaves: Vec::from_slice(alloc, leaves)?,
+            hints: Hints::of(alloc, leaves)?,
             coarser,
             refined: Flags::of_own(alloc, refined),
             may: Flags::of_own(alloc, may),
@@ -101,10 +105,12 @@ impl Known {
     pub(crate) fn has(&self, flag: Flag, id: Id) -> bool
         ensures { result ≡ is_flagged (flagged_in flag self.now) id }
     {
+        let leaves = self.leaves.as_slice();
+        let place = self.hints.place_of(id);
         match flag {
-            Flag::Refined => self.refined.has(self.leaves.as_slice(), id),
-            Flag::May => self.may.has(self.leaves.as_slice(), id),
-            Flag::Merges => self.merging.has(self.leaves.as_slice(), id),
+            Flag::Refined => self.refined.has(leaves, id, place),
+            Flag::May => self.may.has(leaves, id, place),
+            Flag::Merges => self.merging.has(leaves, id, place),
         }
     }
 
@@ -165,25 +171,31 @@ impl Known {
         }
     }
 
-    // Whether a linked leaf of a level is refined.
-    fn is_refined_beside(&self, level: u32, links: &[Link]) -> bool
-        ensures { result ≡ list_any (λ (link : Link). level_of link.id == level && is_flagged self.now.refined link.id) links.now }
+    // Whether a leaf of a level is refined that is linked with the leaf beside it. Where no leaf is refined, no link is
+    // looked at.
+    fn is_refined_beside<L: HasLinks>(&self, level: u32, beside: &L) -> bool
+        ensures { result
+            ≡ list_any (λ (link : Link). level_of link.id == level && is_flagged self.now.refined link.id) (L.linked beside.now) }
     {
-        links.iter().any(|link| link.id.level() == level && self.has(Flag::Refined, link.id))
+        if self.refined.is_unset() && self.refined.is_unheard() {
+            return false;
+        }
+        beside.links().iter().any(|link| link.id.level() == level
+            && self.has(Flag::Refined, link.id))
     }
 
-    /// Whether a linked leaf one level finer is refined.
-    pub(crate) fn is_forced(&self, id: Id, links: &[Link]) -> bool
-        ensures { result ≡ is_forced self.now.refined id links.now }
+    /// Whether a leaf one level finer is refined that is linked with this one.
+    pub(crate) fn is_forced<L: HasLinks>(&self, id: Id, beside: &L) -> bool
+        ensures { result ≡ is_forced self.now.refined id (L.linked beside.now) }
     {
-        self.is_refined_beside(id.level() + 1, links)
+        self.is_refined_beside(id.level() + 1, beside)
     }
 
     // Whether no linked leaf of its level is refined.
-    fn is_calm(&self, id: Id, links: &[Link]) -> bool
-        ensures { result ≡ is_calm self.now.refined id links.now }
+    fn is_calm<L: HasLinks>(&self, id: Id, beside: &L) -> bool
+        ensures { result ≡ is_calm self.now.refined id (L.linked beside.now) }
     {
-        !self.is_refined_beside(id.level(), links)
+        !self.is_refined_beside(id.level(), beside)
     }
 
     // Whether each linked leaf one level finer merges.
@@ -195,21 +207,21 @@ impl Known {
     }
 
     /// Whether the own leaf at a place, which has these links, may merge.
-    pub(crate) fn may_merge(&self, place: usize, id: Id, links: &[Link]) -> bool
+    pub(crate) fn may_merge<L: HasLinks>(&self, place: usize, id: Id, beside: &L) -> bool
         requires { slice_get self.now.leaves place ≡ Some id }
-        ensures { result ≡ may_merge self.now id links.now }
+        ensures { result ≡ may_merge self.now id (L.linked beside.now) }
     {
         self.coarsens_at(place)
             && !self.has_at(Flag::Refined, place)
-            && self.is_calm(id, links)
-            && self.finer_merge(id, links)
+            && self.is_calm(id, beside)
+            && self.finer_merge(id, beside.links())
     }
 
     // Whether a leaf may merge, which is looked for at a place first.
     fn may_near(&self, id: Id, place: usize) -> bool
         ensures { result ≡ is_flagged self.now.may id }
     {
-        self.may.has_near(self.leaves.as_slice(), id, place)
+        self.may.has(self.leaves.as_slice(), id, place)
     }
 
     // Whether the eight children of a block all may merge. Mostly they stand together from a place on.

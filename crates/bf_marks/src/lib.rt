@@ -11,6 +11,7 @@
 mod flag;
 mod flags;
 mod has_links;
+mod hints;
 mod known;
 pub mod laws;
 mod marks;

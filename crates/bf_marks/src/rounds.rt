@@ -15,8 +15,7 @@ pub(crate) fn mark_forced<L: HasLinks>(next: &mut Vec<bool>, known: &Known, link
     ensures room { length next.new.items ≡ length known.now.leaves }
 {
     for (place, id) in known.leaves().iter().enumerate() {
-        next[place] = known.has_at(Flag::Refined, place)
-            || known.is_forced(*id, links[place].links());
+        next[place] = known.has_at(Flag::Refined, place) || known.is_forced(*id, &links[place]);
     }
 }
 
@@ -29,7 +28,7 @@ pub(crate) fn mark_may<L: HasLinks>(next: &mut Vec<bool>, known: &Known, links: 
 {
     for (place, id) in known.leaves().iter().enumerate() {
         next[place] = if id.level() == level {
-            known.may_merge(place, *id, links[place].links())
+            known.may_merge(place, *id, &links[place])
         } else {
             known.has_at(Flag::May, place)
         };
