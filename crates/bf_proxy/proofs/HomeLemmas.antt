@@ -27,7 +27,7 @@ use Rattle.bf_links.specs.declared.link.Link.{Link}
 use Rattle.bf_links.proofs.BoundLemmas.{few_links}
 use Rattle.bf_links.proofs.LinkLemmas.{links_are_links, links_exact}
 use Rattle.bf_proxy.specs.declared.proxy.Proxy.{Proxy}
-use Rattle.bf_proxy.specs.Joined.{joined}
+use Rattle.bf_proxy.specs.Joined.{joined, AgreeOnOwners}
 use Rattle.bf_proxy.specs.Proxies.{first_rank, gathered, known_links, made_links, proxy_at, sources_by}
 use Rattle.bf_proxy.specs.Homes.{gathered_from, go_into, goes_into, home_of, near_links, origin_of, outer_links, AreOthers}
 use Rattle.bf_proxy.proofs.JoinLemmas.{joined_cases, joined_keeps, joined_names, joined_rises, same_links}
@@ -471,3 +471,63 @@ module _ (shape : Shape) (levels : ℕ) (ids : List BlockId) (target : BlockId �
                 gathered_has siblings first (child_of p o) z first_new new (are.all o later small)
                 (Contains-filter (λ (l : Link). touches shape (parent_of (child_of p o)) l.id) (near_links shape ids target owner (child_of p o)) z near
                 ((touches_decides shape (parent_of (child_of p o)) z.id).1 (subst (λ q. Touch shape q z.id) (sym (parent_of-child p o)) touch)))
+
+    -- ---- any outer links of the octet can be gathered
+
+    -- links to new leaves that touch one are few
+    touching_few : (p : BlockId) (links : List Link) → Contains news p → AllPairs ComesBefore links → ((z : Link) → Contains links z → IsNew z × Touch shape p z.id) → length links ≤ 56
+    touching_few p links new rise each =
+        let test : Link → Bool = λ l. touches shape p l.id in
+        let whole : links ≡ touching shape p links =
+        same_links links (touching shape p links) rise (AllPairs-filter ComesBefore test links rise)
+        (λ z has. Contains-filter test links z has ((touches_decides shape p z.id).1 (each z has).1)) (λ z has. (Contains-filter_cases test links z has).0) in
+        subst (λ n. n ≤ 56) (sym (ap length whole))
+        (few_links shape levels news p links balanced new (All-from_Contains (λ (z : Link). Contains news z.id) links (λ z has. (each z has).0.leaf)) rise)
+
+    module _ (p : BlockId) (has : Contains ids (child_of p 0)) (merge : target (child_of p 0) ≡ Merge) where
+      merged_new : Contains news p
+      merged_new =
+          heir_from_follows shape levels ids target (child_of p 0) p is.sound (has, subst (λ t. Follows t (child_of p 0) p) (sym merge) (sym (parent_of-child p 0)))
+
+      abbrev merged_first : Proxy
+      merged_first = proxy_at shape (target (child_of p 0)) (sources (child_of p 0)) (known (child_of p 0)) p
+
+      abbrev merged_from : List BlockId → List Link
+      merged_from siblings = (gathered_from shape ids target owner siblings merged_first).links
+
+      merged_rises : (siblings : List BlockId) → AllPairs ComesBefore (merged_from siblings)
+      merged_rises siblings =
+          gathered_rises siblings merged_first (AllPairs-filter ComesBefore (λ (l : Link). touches shape p l.id) (known (child_of p 0)) (known_rises (child_of p 0)))
+
+      merged_touch : (siblings : List BlockId) → ((j : BlockId) → Contains siblings j → parent_of j ≡ p) → (z : Link) → Contains (merged_from siblings) z → IsNew z × Touch shape p z.id
+      merged_touch siblings under z there = by (gathered_cases siblings merged_first z there)
+        where
+          by : Contains merged_first.links z ⊎ ((i : BlockId) × Contains siblings i × Contains (outer_links shape ids target owner i) z) → IsNew z × Touch shape p z.id
+          by (inl before) =
+              let kept = Contains-filter_cases (λ (l : Link). touches shape p l.id) (known (child_of p 0)) z before in
+              (known_new (child_of p 0) z has kept.0, (touches_decides shape p z.id).0 kept.1)
+          by (inr (i, in', outer)) =
+              let new = outer_new i z outer in
+              (new.0, subst (λ q. Touch shape q z.id) (under i in') new.1)
+
+      pub outer_few : (i : BlockId) → parent_of i ≡ p → length (outer_links shape ids target owner i) ≤ 56
+      outer_few i up =
+          subst (λ q. length (touching shape q (near_links shape ids target owner i)) ≤ 56) (sym up)
+          (few_links shape levels news p (near_links shape ids target owner i) balanced merged_new
+          (All-from_Contains (λ (z : Link). Contains news z.id) (near_links shape ids target owner i) (λ z there. (near_new i z there).0.leaf)) (near_rises i))
+
+      pub gathering_few : (i : BlockId) (siblings : List BlockId) → parent_of i ≡ p → ((j : BlockId) → Contains siblings j → parent_of j ≡ p)
+          → length (joined (outer_links shape ids target owner i) (merged_from siblings)) ≤ 56
+      gathering_few i siblings up under =
+          touching_few p (joined (outer_links shape ids target owner i) (merged_from siblings)) merged_new
+          (joined_rises (outer_links shape ids target owner i) (merged_from siblings) (merged_rises siblings))
+          (λ z there. by z (joined_cases (outer_links shape ids target owner i) (merged_from siblings) z there))
+        where
+          by : (z : Link) → Contains (outer_links shape ids target owner i) z ⊎ Contains (merged_from siblings) z → IsNew z × Touch shape p z.id
+          by z (inl outer) = let new = outer_new i z outer in (new.0, subst (λ q. Touch shape q z.id) up new.1)
+          by z (inr before) = merged_touch siblings under z before
+
+      pub gathering_agrees : (i : BlockId) (siblings : List BlockId) → ((j : BlockId) → Contains siblings j → parent_of j ≡ p)
+          → AgreeOnOwners (outer_links shape ids target owner i) (merged_from siblings)
+      gathering_agrees i siblings under x y has_x has_y same =
+          (outer_new i x has_x).0.owned ∙ ap home same ∙ sym (merged_touch siblings under y has_y).0.owned

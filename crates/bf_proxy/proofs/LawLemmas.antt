@@ -2,10 +2,11 @@
 use Rattle.std.proofs.Common.{◌≡◌, ◌≢◌, ℕ, ◌<◌, ◌≤◌, ◌↔◌, ◌==◌, List, [], ◌∷◌, ◌++◌, length, map, filter, flat_map, All, Contains, refl, sym, ap, ◌∙◌, subst, arith}
 use Rattle.std.specs.Prelude.{AllPairs}
 use Rattle.std.proofs.lemmas.List.Elements.{All-contains, All-map}
+use Rattle.std.proofs.lemmas.List.Kept.{AllPairs-filter}
 use Rattle.bf_lemmas.proofs.Lists.{All-from_Contains, map_twice}
 use Rattle.bf_id.specs.declared.shape.Shape.{Shape}
 use Rattle.bf_id.specs.Cube.{Holds, Voxel}
-use Rattle.bf_id.specs.Id.{BlockId, IsId, InShape, level_of, box_of, child_of, children_of, parent_of}
+use Rattle.bf_id.specs.Id.{BlockId, IsId, InShape, level_of, box_of, child_of, children_of, parent_of, touches}
 use Rattle.bf_id.specs.Walk.{IsBefore}
 use Rattle.bf_id.proofs.Boxes.{child_holding, corner_of, holds_corner, level-child, parent_holds}
 use Rattle.bf_id.proofs.Tilings.{Contains-child, Contains-child_cases, Contains-one, Contains-one_cases}
@@ -16,13 +17,25 @@ use Rattle.bf_case.specs.Wishes.{Wishes}
 use Rattle.bf_case.proofs.ChoiceLemmas.{regridded_are_balanced, target_of_is_sound}
 use Rattle.bf_case.proofs.HeirLemmas.{heirs_in, heirs_in_shape, IsInOctet, IsRegridded, Follows}
 use Rattle.bf_case.proofs.OctetLemmas.{level-parent, parent_of-child}
-use Rattle.bf_links.specs.Links.{link_to, links_of, touching, ComesBefore}
+use Rattle.bf_links.specs.Links.{link_to, links_of, touching, AreLinks, ComesBefore}
 use Rattle.bf_links.specs.declared.link.Link.{Link}
 use Rattle.bf_proxy.specs.declared.proxy.Proxy.{Proxy}
+use Rattle.bf_proxy.specs.Joined.{joined, AgreeOnOwners}
 use Rattle.bf_proxy.specs.Proxies.{known_links, proxy_at, sources_by, AreSources}
-use Rattle.bf_proxy.specs.Homes.{gathered_from, home_of, made_at, near_links, AreOthers, CanRegrid, ShareUnit}
+use Rattle.bf_proxy.specs.Homes.{gathered_from, home_of, made_at, near_links, outer_links, AreOthers, CanRegrid, ShareUnit}
 use Rattle.bf_proxy.proofs.MakeLemmas.{heirs_follow}
-use Rattle.bf_proxy.proofs.HomeLemmas.{follows_goes, known_few, links_gathered, links_made, made_are, near_new, near_rises}
+use Rattle.bf_proxy.proofs.HomeLemmas.{
+  follows_goes,
+  gathering_agrees,
+  gathering_few,
+  known_few,
+  links_gathered,
+  links_made,
+  made_are,
+  near_new,
+  near_rises,
+  outer_few,
+}
 
 pub is_regridded : (shape : Shape) (levels : ℕ) (ids : List BlockId) (w : Wishes) → CanRegrid shape levels ids w → IsRegridded shape levels ids (target_of shape ids w)
 is_regridded shape levels ids w can = record { few = can.few; before = can.leaves; sound = target_of_is_sound shape levels ids w can.few can.room can.leaves }
@@ -141,22 +154,53 @@ module _ (shape : Shape) (levels : ℕ) (ids : List BlockId) (w : Wishes) (owner
       (All-from_Contains (λ p. touching shape p (known_links (target i) i (map (link_to owner) (sources_by (target i) i)) (near_links shape ids target owner i)) ≡ links_of shape (heirs_in target ids) (home_of ids owner) p)
       (heirs_by (target i) i) (λ p heir. links_made shape levels ids target is owner i p has other heir))
 
+  -- what holds of the proxy of a merging octet holds of all that its first leaf makes
+  of_merged : (P : Proxy → Type 0) (parent : BlockId) → target (child_of parent 0) ≡ Merge
+      → P (proxy_at shape (target (child_of parent 0)) (map (link_to owner) (sources_by (target (child_of parent 0)) (child_of parent 0)))
+      (known_links (target (child_of parent 0)) (child_of parent 0) (map (link_to owner) (sources_by (target (child_of parent 0)) (child_of parent 0))) (near_links shape ids target owner (child_of parent 0))) parent)
+      → All P (made_at shape ids target owner (child_of parent 0))
+  of_merged P parent merge holds =
+      let i : BlockId = child_of parent 0 in
+      let proxy : BlockId → Proxy =
+      proxy_at shape (target i) (map (link_to owner) (sources_by (target i) i)) (known_links (target i) i (map (link_to owner) (sources_by (target i) i)) (near_links shape ids target owner i)) in
+      All-map P proxy (heirs_by (target i) i)
+      (All-from_Contains (λ p. P (proxy p)) (heirs_by (target i) i) (λ p heir.
+      let follows : Follows Merge i p = subst (λ t. Follows t i p) merge (heirs_follow (target i) i p heir) in
+      subst (λ q. P (proxy q)) (sym (follows ∙ parent_of-child parent 0)) holds))
+
   pub completed : (parent : BlockId) (siblings : List BlockId) → Contains ids (child_of parent 0) → target (child_of parent 0) ≡ Merge → AreOthers parent siblings
       → All (λ (proxy : Proxy). (gathered_from shape ids target owner siblings proxy).links ≡ links_of shape (regridded_ids shape ids w) (home_of ids owner) parent)
       (made_at shape ids target owner (child_of parent 0))
   unfolding regridded_ids
   completed parent siblings has merge are =
-      let i : BlockId = child_of parent 0 in
-      All-map (λ (proxy : Proxy). (gathered_from shape ids target owner siblings proxy).links ≡ links_of shape (heirs_in target ids) (home_of ids owner) parent)
-      (proxy_at shape (target i) (map (link_to owner) (sources_by (target i) i)) (known_links (target i) i (map (link_to owner) (sources_by (target i) i)) (near_links shape ids target owner i)))
-      (heirs_by (target i) i)
-      (All-from_Contains (λ p. (gathered_from shape ids target owner siblings (proxy_at shape (target i) (map (link_to owner) (sources_by (target i) i))
-      (known_links (target i) i (map (link_to owner) (sources_by (target i) i)) (near_links shape ids target owner i)) p)).links ≡ links_of shape (heirs_in target ids) (home_of ids owner) parent)
-      (heirs_by (target i) i) (λ p heir.
-      let follows : Follows Merge i p = subst (λ t. Follows t i p) merge (heirs_follow (target i) i p heir) in
-      subst (λ q. (gathered_from shape ids target owner siblings (proxy_at shape (target i) (map (link_to owner) (sources_by (target i) i))
-      (known_links (target i) i (map (link_to owner) (sources_by (target i) i)) (near_links shape ids target owner i)) q)).links ≡ links_of shape (heirs_in target ids) (home_of ids owner) parent)
-      (sym (follows ∙ parent_of-child parent 0)) (links_gathered shape levels ids target is owner parent siblings has merge are)))
+      of_merged (λ (proxy : Proxy). (gathered_from shape ids target owner siblings proxy).links ≡ links_of shape (heirs_in target ids) (home_of ids owner) parent) parent merge
+      (links_gathered shape levels ids target is owner parent siblings has merge are)
+
+  up_from : (parent i : BlockId) → Contains (children_of parent) i → parent_of i ≡ parent
+  up_from parent i has = let child = Contains-child_cases parent i has in ap parent_of child.2 ∙ parent_of-child parent child.0
+
+  all_up : (parent : BlockId) (siblings : List BlockId) → All (Contains (children_of parent)) siblings → (j : BlockId) → Contains siblings j → parent_of j ≡ parent
+  all_up parent siblings all j has = up_from parent j (All-contains (Contains (children_of parent)) siblings j all has)
+
+  pub outer_valid : (parent i : BlockId) → Contains ids (child_of parent 0) → target (child_of parent 0) ≡ Merge → Contains (children_of parent) i → AreLinks (outer_links shape ids target owner i)
+  outer_valid parent i has merge child = record {
+    rising = AllPairs-filter ComesBefore (λ (l : Link). touches shape (parent_of i) l.id) (near_links shape ids target owner i) (near_rises shape levels ids target is owner i);
+    few = outer_few shape levels ids target is owner parent has merge i (up_from parent i child);
+  }
+
+  pub gather_few : (parent i : BlockId) (siblings : List BlockId) → Contains ids (child_of parent 0) → target (child_of parent 0) ≡ Merge
+      → Contains (children_of parent) i → All (Contains (children_of parent)) siblings
+      → All (λ (proxy : Proxy). length (joined (outer_links shape ids target owner i) (gathered_from shape ids target owner siblings proxy).links) ≤ 56) (made_at shape ids target owner (child_of parent 0))
+  gather_few parent i siblings has merge child all =
+      of_merged (λ (proxy : Proxy). length (joined (outer_links shape ids target owner i) (gathered_from shape ids target owner siblings proxy).links) ≤ 56) parent merge
+      (gathering_few shape levels ids target is owner parent has merge i siblings (up_from parent i child) (all_up parent siblings all))
+
+  pub gather_agrees : (parent i : BlockId) (siblings : List BlockId) → Contains ids (child_of parent 0) → target (child_of parent 0) ≡ Merge
+      → Contains (children_of parent) i → All (Contains (children_of parent)) siblings
+      → All (λ (proxy : Proxy). AgreeOnOwners (outer_links shape ids target owner i) (gathered_from shape ids target owner siblings proxy).links) (made_at shape ids target owner (child_of parent 0))
+  gather_agrees parent i siblings has merge child all =
+      of_merged (λ (proxy : Proxy). AgreeOnOwners (outer_links shape ids target owner i) (gathered_from shape ids target owner siblings proxy).links) parent merge
+      (gathering_agrees shape levels ids target is owner parent has merge i siblings (all_up parent siblings all))
 
   pub few : (i : BlockId) → Contains ids i
       → All (λ q. length (touching shape q (known_links (target i) i (map (link_to owner) (sources_by (target i) i)) (near_links shape ids target owner i))) ≤ 56) (heirs_by (target i) i)

@@ -2,18 +2,18 @@
 
 ghost use Rattle.std.specs.Prelude.{◌≡◌, ◌≢◌, ◌<◌, ◌≤◌, ◌==◌, ◌↔◌, ◌⊎◌, ℕ, List, length, All, AllPairs, Contains, filter, flat_map, map};
 ghost use Rattle.bf_id.specs.declared.shape.Shape.{Shape};
-ghost use Rattle.bf_id.specs.Id.{child_of, BlockId, InShape};
+ghost use Rattle.bf_id.specs.Id.{child_of, children_of, BlockId, InShape};
 ghost use Rattle.bf_id.specs.Walk.{IsBefore};
 ghost use Rattle.bf_case.specs.Regrid.{heirs_by, regridded_ids, target_of};
 ghost use Rattle.bf_case.specs.Wishes.{Wishes};
 ghost use Rattle.bf_case.specs.declared.target.Target.{Target};
 ghost use Rattle.bf_case.specs.declared.target.Target.TheVariants.{Merge};
-ghost use Rattle.bf_links.specs.Links.{link_to, links_of, touching, ComesBefore};
+ghost use Rattle.bf_links.specs.Links.{link_to, links_of, touching, AreLinks, ComesBefore};
 ghost use Rattle.bf_links.specs.declared.link.Link.{Link};
 ghost use Rattle.bf_proxy.specs.declared.proxy.Proxy.{Proxy};
 ghost use Rattle.bf_proxy.specs.Joined.{joined, AgreeOnOwners};
 ghost use Rattle.bf_proxy.specs.Proxies.{known_links, sources_by, AreSources};
-ghost use Rattle.bf_proxy.specs.Homes.{gathered_from, home_of, made_at, near_links, AreOthers, CanRegrid, ShareUnit};
+ghost use Rattle.bf_proxy.specs.Homes.{gathered_from, home_of, made_at, near_links, outer_links, AreOthers, CanRegrid, ShareUnit};
 
 /// Links put together are the links of both lists, where links to one leaf are one, and they rise by id.
 pub fn joined_links_are_those_of_both()
@@ -65,6 +65,23 @@ pub fn gathering_completes_a_merged_proxy()
     ensures { (shape : Shape) (levels : ℕ) (ids : List BlockId) (w : Wishes) (owner : BlockId → ℕ) → CanRegrid shape levels ids w
         → (parent : BlockId) (siblings : List BlockId) → Contains ids (child_of parent 0) → target_of shape ids w (child_of parent 0) ≡ Merge → AreOthers parent siblings
         → All (λ (proxy : Proxy). (gathered_from shape ids (target_of shape ids w) owner siblings proxy).links ≡ links_of shape (regridded_ids shape ids w) (home_of ids owner) parent)
+        (made_at shape ids (target_of shape ids w) owner (child_of parent 0)) }
+{}
+
+/// The outer links of each sibling can be gathered, whatever was gathered before: they are links, and what is asked of them holds.
+pub fn outer_links_can_be_gathered()
+    ensures valid { (shape : Shape) (levels : ℕ) (ids : List BlockId) (w : Wishes) (owner : BlockId → ℕ) → CanRegrid shape levels ids w
+        → (parent i : BlockId) → Contains ids (child_of parent 0) → target_of shape ids w (child_of parent 0) ≡ Merge → Contains (children_of parent) i
+        → AreLinks (outer_links shape ids (target_of shape ids w) owner i) }
+    ensures few { (shape : Shape) (levels : ℕ) (ids : List BlockId) (w : Wishes) (owner : BlockId → ℕ) → CanRegrid shape levels ids w
+        → (parent i : BlockId) (siblings : List BlockId) → Contains ids (child_of parent 0) → target_of shape ids w (child_of parent 0) ≡ Merge
+        → Contains (children_of parent) i → All (Contains (children_of parent)) siblings
+        → All (λ (proxy : Proxy). length (joined (outer_links shape ids (target_of shape ids w) owner i) (gathered_from shape ids (target_of shape ids w) owner siblings proxy).links) ≤ 56)
+        (made_at shape ids (target_of shape ids w) owner (child_of parent 0)) }
+    ensures agree { (shape : Shape) (levels : ℕ) (ids : List BlockId) (w : Wishes) (owner : BlockId → ℕ) → CanRegrid shape levels ids w
+        → (parent i : BlockId) (siblings : List BlockId) → Contains ids (child_of parent 0) → target_of shape ids w (child_of parent 0) ≡ Merge
+        → Contains (children_of parent) i → All (Contains (children_of parent)) siblings
+        → All (λ (proxy : Proxy). AgreeOnOwners (outer_links shape ids (target_of shape ids w) owner i) (gathered_from shape ids (target_of shape ids w) owner siblings proxy).links)
         (made_at shape ids (target_of shape ids w) owner (child_of parent 0)) }
 {}
 

@@ -66,8 +66,8 @@ fn links_to_made(alloc: Global, id: Id, target: Target, owner: u32) -> Result<Ve
 /// the first of its octet, and else none. They are made at the rank of the first source.
 ///
 /// The sources are the leaf itself, or for a merging one the eight siblings by octant, with their ranks. Near are the proxies
-/// that come of the linked leaves, by rising id, with the ranks at which they are made: up to 152. None of the proxies made
-/// here is among them.
+/// that come of the linked leaves, by rising id, with the ranks at which they are made: up to 448, of which up to 152 touch the
+/// leaf. None of the proxies made here is among them.
 pub fn make(
     alloc: Global,
     id: Id,
