@@ -61,7 +61,7 @@ siblings_meet shape p a b small_a small_b =
     }
 
 -- a sibling is the leaf itself or touches it
-sibling_touches : (shape : Shape) (i s : BlockId) → IsId i → 0 < level_of i → Contains (children_of (parent_of i)) s → (s ≡ i) ⊎ (touches shape i s ≡ true)
+pub sibling_touches : (shape : Shape) (i s : BlockId) → IsId i → 0 < level_of i → Contains (children_of (parent_of i)) s → (s ≡ i) ⊎ (touches shape i s ≡ true)
 sibling_touches shape i s is deep sibling = by (cases_Bool (id_eq i s))
   where
     o : (k : ℕ) × (k < 8) × (s ≡ child_of (parent_of i) k)
