@@ -1,0 +1,11 @@
+pub mod ListLemmas
+pub mod PieceLemmas
+pub mod BlockLemmas
+pub mod PeerLemmas
+pub mod SendLemmas
+pub mod LotLemmas
+pub mod EndLemmas
+pub mod RoundLemmas
+pub mod TellLemmas
+pub mod BoxLemmas
+pub mod ViewLemmas
