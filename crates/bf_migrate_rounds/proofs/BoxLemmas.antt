@@ -23,7 +23,8 @@ use Rattle.bf_migrate.proofs.BoxLemmas.{boxes_given, boxes_made}
 use Rattle.bf_mark_rounds.specs.Neighbors.{AreOwned, is_own}
 use Rattle.bf_rounds.specs.Leading.{Conserves}
 use Rattle.bf_migrate_rounds.specs.Boxes.{boxes_held}
-use Rattle.bf_migrate_rounds.specs.Holdings.{Holdings, Migrating, OwnBlock, blocks_in, loads, on_hand}
+use Rattle.bf_msg.specs.declared.linked_block.LinkedBlock.{LinkedBlock}
+use Rattle.bf_migrate_rounds.specs.Holdings.{Holdings, Migrating, blocks_in, loads, on_hand}
 use Rattle.bf_migrate_rounds.specs.Plays.{cargo_for, cargo_without}
 use Rattle.bf_migrate_rounds.specs.Shares.{block_after, block_before, cargo_told, held_after, held_heard, held_sent, left_with, migrating_after, migrating_course, new_ids, old_ids, own_new, own_old, proxy_of, target_at, two_way_peers}
 use Rattle.bf_migrate_rounds.proofs.BlockLemmas.{block_models, comes_from, goes_to, load, load_id, new, old, pieces, regridded_model}
@@ -159,7 +160,7 @@ module _ (c : Case) (time : ℕ) (runs : CanRun c) (does : IsTrue (regrids c tim
   finish_keeps rank member =
       let cargo : List Cargo = loads (left rank (peers rank)) ++ gained c time runs does owner later members rise owned owned_later rank in
       ap (count_by test) (append-nil (boxes_of (blocks_in (map (block_after c time owner later) (own_later rank)))))
-      ∙ ap (λ bs. count_by test (boxes_of bs)) (map-map (λ (o : OwnBlock). o.block) (block_after c time owner later) (own_later rank))
+      ∙ ap (λ bs. count_by test (boxes_of bs)) (map-map (λ (o : LinkedBlock). o.block) (block_after c time owner later) (own_later rank))
       ∙ sym (boxes_made c time (map (proxy_of c time owner later) (own_later rank)) cargo (map now (own_later rank)) test
       (hand_makes c time runs does owner later members rise owned owned_later rank member) (are_blocks (own_later rank)) (hand_shallow rank) halved)
       ∙ sym (heard_weighs rank (peers rank) (gained c time runs does owner later members rise owned owned_later rank))

@@ -28,7 +28,7 @@ use Rattle.bf_mark_rounds.specs.Neighbors.{is_own}
 use Rattle.bf_mark_rounds.proofs.HeardLemmas.{rising_same}
 use Rattle.bf_proxy.specs.Homes.{origin_of}
 use Rattle.bf_proxy.specs.declared.proxy.Proxy.{Proxy}
-use Rattle.bf_migrate_rounds.specs.Holdings.{OwnBlock}
+use Rattle.bf_msg.specs.declared.linked_block.LinkedBlock.{LinkedBlock}
 use Rattle.bf_migrate_rounds.specs.Plays.{assembled, cargo_of, eighths, made_of, merged_of, wholes, with_links}
 use Rattle.bf_migrate_rounds.specs.Shares.{block_after, new_ids, old_ids, own_new, proxy_of, target_at}
 use Rattle.bf_migrate_rounds.proofs.BlockLemmas.{block_is, goal, goes_to, load, load_child, load_id, load_kept, load_merged, merged_is, new, news_are, octet_is, old, parts, pieces, regridded_model}
@@ -213,7 +213,7 @@ module _ (c : Case) (time : ℕ) (runs : CanRun c) (does : IsTrue (regrids c tim
       let proxy : Proxy = proxy_of c time owner later q in
       ap (λ bs. map (with_links proxy) bs ++ assembled (map (proxy_of c time owner later) qs) cargo)
       (block_made q cargo (within q (Contains-head q qs)) (target (origin q)) refl (has q (Contains-head q qs)))
-      ∙ ap (λ (os : List OwnBlock). block_after c time owner later q ∷ os)
+      ∙ ap (λ (os : List LinkedBlock). block_after c time owner later q ∷ os)
       (assembled_are cargo qs (λ r in'. within r (Contains-tail q qs r in')) (λ r in'. has r (Contains-tail q qs r in')))
 
   -- blocks that real cargo makes are those that the play's does

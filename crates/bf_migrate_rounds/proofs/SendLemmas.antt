@@ -20,7 +20,8 @@ use Rattle.bf_block.specs.Runs.{CanRun}
 use Rattle.bf_block.specs.Block.{BlockValue, before_regrid, child_block}
 use Rattle.bf_migrate.specs.Giving.{Gift, all_sent, gifts_by, gifts_of, sent_to, whole}
 use Rattle.bf_proxy.specs.Homes.{goes_into}
-use Rattle.bf_migrate_rounds.specs.Holdings.{Holdings, OwnBlock, blocks_in, loads}
+use Rattle.bf_msg.specs.declared.linked_block.LinkedBlock.{LinkedBlock}
+use Rattle.bf_migrate_rounds.specs.Holdings.{Holdings, blocks_in, loads}
 use Rattle.bf_migrate_rounds.specs.Plays.{cargo_for, cargo_without, migrate_play, packed, rank_in}
 use Rattle.bf_migrate_rounds.specs.Shares.{block_before, cargo_told, given_by, held_sent, left_with, migrating_with, model_block, new_ids, own_old, plan_at, target_at, with_rank}
 use Rattle.bf_migrate_rounds.proofs.ListLemmas.{flat_map_where, map_where, member_more}
@@ -67,7 +68,7 @@ module _ (c : Case) (time : ℕ) (runs : CanRun c) (does : IsTrue (regrids c tim
       r.2 ∙ ap pair ((id_eq_is_equal r.0 q).0 (subst (λ (x : BlockId × ℕ). id_eq x.0 q ≡ true) r.2 passed))))
 
   pub blocks_are : (rank : ℕ) → blocks_in (map (block_before c time owner later) (own rank)) ≡ map old (own rank)
-  blocks_are rank = map-map (λ (o : OwnBlock). o.block) (block_before c time owner later) (own rank)
+  blocks_are rank = map-map (λ (o : LinkedBlock). o.block) (block_before c time owner later) (own rank)
 
   all_given : (rank : ℕ)
       → all_sent (rank_in (plan_at c time owner later rank).targets) (blocks_in (map (block_before c time owner later) (own rank)))

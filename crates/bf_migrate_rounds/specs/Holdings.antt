@@ -3,13 +3,8 @@ use Rattle.std.specs.Prelude.{ℕ, List, ◌++◌, map}
 use Rattle.bf_id.specs.Id.{BlockId}
 use Rattle.bf_block.specs.Block.{BlockValue}
 use Rattle.bf_block.specs.declared.cargo.Cargo.{Cargo}
-use Rattle.bf_links.specs.declared.link.Link.{Link}
+use Rattle.bf_msg.specs.declared.linked_block.LinkedBlock.{LinkedBlock}
 use Rattle.bf_proxy.specs.declared.proxy.Proxy.{Proxy}
-
--- a block with links to the leaves that touch it
-pub record OwnBlock : Type 0 where
-  pub block : BlockValue
-  pub links : List Link
 
 -- what stays the same in the round: the rank's number, the proxies into which its blocks go with the ranks that have these, by rising id, and the
 -- proxies that it has itself
@@ -20,7 +15,7 @@ pub record Plan : Type 0 where
 
 -- what the rank holds: blocks by rising id, cargo on its way out with the ranks to which it goes, and cargo that arrived
 pub record Holdings : Type 0 where
-  pub blocks : List OwnBlock
+  pub blocks : List LinkedBlock
   pub cargo : List (ℕ × Cargo)
   pub arrived : List Cargo
 
@@ -28,8 +23,8 @@ pub record Migrating : Type 0 where
   pub plan : Plan
   pub holds : Holdings
 
-abbrev pub blocks_in : List OwnBlock → List BlockValue
-blocks_in own = map (λ (o : OwnBlock). o.block) own
+abbrev pub blocks_in : List LinkedBlock → List BlockValue
+blocks_in own = map (λ (o : LinkedBlock). o.block) own
 
 -- the cargo without its ranks
 abbrev pub loads : List (ℕ × Cargo) → List Cargo

@@ -14,7 +14,8 @@ use Rattle.bf_migrate.specs.Giving.{all_sent}
 use Rattle.bf_migrate.specs.Lots.{cargo_id}
 use Rattle.bf_proxy.specs.declared.proxy.Proxy.{Proxy}
 use Rattle.bf_rounds.specs.Delivering.{Delivery}
-use Rattle.bf_migrate_rounds.specs.Holdings.{Holdings, Migrating, OwnBlock, Plan, blocks_in, loads, on_hand}
+use Rattle.bf_msg.specs.declared.linked_block.LinkedBlock.{LinkedBlock}
+use Rattle.bf_migrate_rounds.specs.Holdings.{Holdings, Migrating, Plan, blocks_in, loads, on_hand}
 
 -- another rank that has a proxy into which a block of this one goes, or that owns a source of one of its proxies
 abbrev pub is_two_way : Plan → (other : ℕ) → Bool
@@ -63,11 +64,11 @@ made_of Keep cargo q = wholes (cargo_of cargo q)
 made_of Refine cargo q = wholes (cargo_of cargo q)
 made_of Merge cargo q = merged_of q (eighths (flat_map (cargo_of cargo) (children_of q)))
 
-abbrev pub with_links : Proxy → BlockValue → OwnBlock
+abbrev pub with_links : Proxy → BlockValue → LinkedBlock
 with_links proxy b = record { block = b; links = proxy.links }
 
 -- the blocks of proxies, each with the proxy's links
-abbrev pub assembled : List Proxy → List Cargo → List OwnBlock
+abbrev pub assembled : List Proxy → List Cargo → List LinkedBlock
 assembled proxies cargo = flat_map (λ (proxy : Proxy). map (with_links proxy) (made_of proxy.origin cargo proxy.id)) proxies
 
 abbrev pub ended : Plan → Holdings → Holdings

@@ -22,7 +22,8 @@ use Rattle.bf_proxy.specs.Proxies.{sources_by}
 use Rattle.bf_proxy.specs.declared.proxy.Proxy.{Proxy}
 use Rattle.bf_rounds.specs.Courses.{Course}
 use Rattle.bf_rounds.specs.Delivering.{delivering}
-use Rattle.bf_migrate_rounds.specs.Holdings.{Holdings, Migrating, OwnBlock, Plan}
+use Rattle.bf_msg.specs.declared.linked_block.LinkedBlock.{LinkedBlock}
+use Rattle.bf_migrate_rounds.specs.Holdings.{Holdings, Migrating, Plan}
 use Rattle.bf_migrate_rounds.specs.Plays.{cargo_for, is_two_way, migrate_play}
 
 -- the model's block at a leaf of a point
@@ -48,10 +49,10 @@ module _ (c : Case) (time : ℕ) where
     abbrev pub own_new : (rank : ℕ) → List BlockId
     own_new rank = filter (is_own later rank) new_ids
 
-    abbrev pub block_before : BlockId → OwnBlock
+    abbrev pub block_before : BlockId → LinkedBlock
     block_before i = record { block = model_block c (before_regrid time) i; links = links_of c.roots old_ids owner i }
 
-    abbrev pub block_after : BlockId → OwnBlock
+    abbrev pub block_after : BlockId → LinkedBlock
     block_after q = record { block = model_block c (after_regrid time) q; links = links_of c.roots new_ids later q }
 
     -- the proxy of a new leaf, as the rank that owned the first of its sources made it, with links that name later owners
@@ -73,7 +74,7 @@ module _ (c : Case) (time : ℕ) where
       proxies = map proxy_of (own_new rank);
     }
 
-    abbrev pub holding_blocks : List OwnBlock → Holdings
+    abbrev pub holding_blocks : List LinkedBlock → Holdings
     holding_blocks blocks = record { blocks = blocks; cargo = []; arrived = [] }
 
     abbrev pub migrating_with : (rank : ℕ) → Holdings → Migrating
