@@ -1,0 +1,2 @@
+-- Flows among ranks that balance their loads by diffusion.
+pub mod Flows
