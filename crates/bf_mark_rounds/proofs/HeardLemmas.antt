@@ -21,15 +21,9 @@ use Rattle.bf_case.proofs.SampleLemmas.{not_before_itself}
 use Rattle.bf_case.proofs.TestLemmas.{Contains-filter, Contains-filter_cases}
 use Rattle.bf_marks.specs.Marks.{MarksValue}
 use Rattle.bf_marks.specs.declared.flag.Flag.TheVariants.{Refined, May, Merges}
-use Rattle.bf_marks.proofs.ChosenLemmas.{among_has, among_is}
-use Rattle.bf_marks.proofs.TargetLemmas.{heard_known}
+use Rattle.bf_marks.proofs.ChosenLemmas.{among_has, among_is, first_before, rest_rises}
+use Rattle.bf_marks.proofs.TargetLemmas.{among_more}
 use Rattle.bf_mark_rounds.specs.Plays.{hear_all}
-
-first_before : (x : BlockId) (xs : List BlockId) (z : BlockId) → AllPairs IsBefore (x ∷ xs) → Contains xs z → IsBefore x z
-first_before x xs z rise (k, below, is) = subst (IsBefore x) is (rise 0 (suc k) z (omega arith) (omega arith))
-
-rest_rises : (x : BlockId) (xs : List BlockId) → AllPairs IsBefore (x ∷ xs) → AllPairs IsBefore xs
-rest_rises x xs rise = λ i j d below within. rise (suc i) (suc j) d (omega arith) (omega arith)
 
 -- rising lists with the same elements are one
 pub rising_same : (xs ys : List BlockId) → AllPairs IsBefore xs → AllPairs IsBefore ys → ((z : BlockId) → Contains xs z → Contains ys z) → ((z : BlockId) → Contains ys z → Contains xs z)
@@ -64,9 +58,6 @@ rising_same (x ∷ xs) (y ∷ ys) rise_x rise_y there back =
 
 -- ---- an id at its place
 
-among_put : (keys : List BlockId) (i j : BlockId) → is_among (insert_key id_cmp keys i) j ≡ (id_eq j i || is_among keys j)
-among_put keys i j = heard_known (record { own = []; heard = keys }) i j
-
 ahead : (x : BlockId) (ys : List BlockId) → AllPairs IsBefore ys → ((z : BlockId) → Contains ys z → IsBefore x z) → AllPairs IsBefore (x ∷ ys)
 ahead x ys rise before =
     AllPairs-cons IsBefore x ys (λ k d below. before (get_or ys k d) (k, below, get_same ys k d below)) rise
@@ -77,7 +68,7 @@ ahead x ys rise before =
     get_same (y ∷ ys) (suc k) d below = get_same ys k d (omega arith)
 
 put_cases : (ys : List BlockId) (x z : BlockId) → Contains (insert_key id_cmp ys x) z → (z ≡ x) ⊎ Contains ys z
-put_cases ys x z has = by (or_cases (id_eq z x) (is_among ys z) (sym (among_put ys x z) ∙ among_is (insert_key id_cmp ys x) z has))
+put_cases ys x z has = by (or_cases (id_eq z x) (is_among ys z) (sym (among_more ys x z) ∙ among_is (insert_key id_cmp ys x) z has))
   where
     by : (id_eq z x ≡ true) ⊎ (is_among ys z ≡ true) → (z ≡ x) ⊎ Contains ys z
     by (inl same) = inl ((id_eq_is_equal z x).0 same)
@@ -114,7 +105,7 @@ all_rise (i ∷ ids) keys rise = all_rise ids (insert_key id_cmp keys i) (put_ri
 
 among_all : (ids keys : List BlockId) (j : BlockId) → is_among (put_all keys ids) j ≡ (is_among ids j || is_among keys j)
 among_all [] keys j = refl
-among_all (i ∷ ids) keys j = among_all ids (insert_key id_cmp keys i) j ∙ ap (λ b. is_among ids j || b) (among_put keys i j) ∙ swapped (is_among ids j) (id_eq j i) (is_among keys j)
+among_all (i ∷ ids) keys j = among_all ids (insert_key id_cmp keys i) j ∙ ap (λ b. is_among ids j || b) (among_more keys i j) ∙ swapped (is_among ids j) (id_eq j i) (is_among keys j)
   where
     swapped : (a b c : Bool) → (a || (b || c)) ≡ ((b || a) || c)
     swapped true true c = refl

@@ -20,10 +20,11 @@ get_same [] k d e below = absurd (omega arith)
 get_same (x ∷ xs) zero d e below = refl
 get_same (x ∷ xs) (suc k) d e below = get_same xs k d e (omega arith)
 
-rest_rises : (i : BlockId) (ids : List BlockId) → AllPairs IsBefore (i ∷ ids) → AllPairs IsBefore ids
+-- those behind the first of rising leaves rise too, and it comes before each
+pub rest_rises : (i : BlockId) (ids : List BlockId) → AllPairs IsBefore (i ∷ ids) → AllPairs IsBefore ids
 rest_rises i ids rise j k d before within = rise (suc j) (suc k) d (omega arith) (omega arith)
 
-first_before : (i : BlockId) (ids : List BlockId) (j : BlockId) → AllPairs IsBefore (i ∷ ids) → Contains ids j → IsBefore i j
+pub first_before : (i : BlockId) (ids : List BlockId) (j : BlockId) → AllPairs IsBefore (i ∷ ids) → Contains ids j → IsBefore i j
 first_before i ids j rise (k, below, at) = subst (IsBefore i) at (rise 0 (suc k) j (omega arith) (omega arith))
 
 -- the first leaf is chosen where it passes

@@ -112,7 +112,7 @@ swapped true true c = refl
 swapped true false c = refl
 swapped false b c = refl
 
-among_more : (keys : List BlockId) (i j : BlockId) → is_among (insert_key id_cmp keys i) j ≡ (id_eq j i || is_among keys j)
+pub among_more : (keys : List BlockId) (i j : BlockId) → is_among (insert_key id_cmp keys i) j ≡ (id_eq j i || is_among keys j)
 among_more [] i j = refl
 among_more (x ∷ xs) i j = by (id_cmp i x) refl (among_more xs i j)
   where
