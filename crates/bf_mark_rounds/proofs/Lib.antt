@@ -12,3 +12,4 @@ pub mod SequenceLemmas
 pub mod AllRoundLemmas
 pub mod KeepLemmas
 pub mod ChainRowLemmas
+pub mod TellingLemmas

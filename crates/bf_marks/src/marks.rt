@@ -1,4 +1,6 @@
-ghost use Rattle.std.specs.Prelude.{◌≡◌, length, map, AllPairs, IfOk, OnErr, OnOk};
+ghost use Rattle.std.specs.Prelude.{◌≡◌, ◌<◌, length, map, slice_get, AllPairs, IfOk, OnErr, OnOk, Some};
+ghost use Rattle.bf_case.specs.Refinement.{is_among};
+ghost use Rattle.bf_id.specs.Id.{BlockId};
 ghost use Rattle.bf_id.specs.Walk.{IsBefore};
 ghost use Rattle.bf_marks.specs.Flags.{is_flagged};
 ghost use Rattle.bf_marks.specs.Marks.{first_marks, flagged_in, marks_heard, target_by};
@@ -98,6 +100,14 @@ impl Marks {
         ensures { result ≡ is_flagged (flagged_in flag self.now) id }
     {
         self.known.has(flag, id)
+    }
+
+    /// Whether the own leaf at a place has a flag.
+    pub fn has_own_at(&self, place: usize, flag: Flag) -> bool
+        requires { place < length self.now.leaves }
+        ensures { (i : BlockId) → slice_get self.now.leaves place ≡ Some i → result ≡ is_among (flagged_in flag self.now).own i }
+    {
+        self.known.has_at(flag, place)
     }
 
     /// What becomes of a leaf, as far as is known.
