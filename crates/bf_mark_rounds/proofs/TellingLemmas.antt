@@ -1,6 +1,7 @@
 -- Leaves chosen one after another.
-use Rattle.std.proofs.Common.{◌≡◌, ℕ, suc, ◌+◌, ◌<◌, Bool, true, false, cond, List, [], ◌∷◌, ◌++◌, map, drop, length, get_or, refl, sym, ap, ◌∙◌, add-one, append_assoc, arith}
+use Rattle.std.proofs.Common.{◌≡◌, ◌||◌, ℕ, suc, ◌+◌, ◌<◌, Bool, true, false, cond, List, [], ◌∷◌, ◌++◌, map, drop, length, get_or, refl, sym, ap, ◌∙◌, add-one, append_assoc}
 use Rattle.std.proofs.lemmas.List.{append-nil}
+use Rattle.std.specs.List.{list_any}
 use Rattle.std.proofs.Math.Seq.{drop-cons, drop-length}
 use Rattle.bf_id.specs.Id.{BlockId}
 use Rattle.bf_marks.specs.Flags.{chosen}
@@ -11,11 +12,11 @@ abbrev pub Found : {X : Type 0} → (test : BlockId → X → Bool) → (ids : L
 Found test ids xs found place = chosen test ids xs ≡ found ++ chosen test (drop place ids) (drop place xs)
 
 -- the leaf at a place is found too where it passes
-pub found_more : {X : Type 0} (test : BlockId → X → Bool) (ids : List BlockId) (xs : List X) (found : List BlockId) (place : ℕ) (i : BlockId) (x : X) (b : Bool)
-    → place < length ids → place < length xs → get_or ids place i ≡ i → get_or xs place x ≡ x → test i x ≡ b
-    → Found test ids xs found place → Found test ids xs (cond b (found ++ i ∷ []) found) (place + 1)
-found_more {X} test ids xs found place i x b within beside here beside_is passes before =
-    before ∙ ap (λ is. found ++ is) next ∙ by b
+pub found_more : {X : Type 0} (test : BlockId → X → Bool) (ids : List BlockId) (xs : List X) (found now : List BlockId) (place : ℕ) (i : BlockId) (x : X) (b : Bool)
+    → place < length ids → place < length xs → get_or ids place i ≡ i → get_or xs place x ≡ x → test i x ≡ b → now ≡ cond b (found ++ i ∷ []) found
+    → Found test ids xs found place → Found test ids xs now (place + 1)
+found_more {X} test ids xs found now place i x b within beside here beside_is passes is before =
+    before ∙ ap (λ is. found ++ is) next ∙ by b ∙ ap (λ is. is ++ later) (sym is)
   where
     later : List BlockId
     later = chosen test (drop (place + 1) ids) (drop (place + 1) xs)
@@ -38,3 +39,8 @@ found_more {X} test ids xs found place i x b within beside here beside_is passes
 pub found_all : {X : Type 0} (test : BlockId → X → Bool) (ids : List BlockId) (xs : List X) (found : List BlockId) → Found test ids xs found (length ids) → found ≡ chosen test ids xs
 found_all test ids xs found are =
     sym (are ∙ ap (λ is. found ++ chosen test is (drop (length ids) xs)) (drop-length ids) ∙ append-nil found)
+
+-- a test of what is made of each
+pub any_of_made : {X Y : Type 0} (f : X → Y) (test : Y → Bool) (xs : List X) → list_any (λ x. test (f x)) xs ≡ list_any test (map f xs)
+any_of_made f test [] = refl
+any_of_made f test (x ∷ xs) = ap (λ b. test (f x) || b) (any_of_made f test xs)

@@ -20,12 +20,19 @@ fn is_linked_with<L: HasLinks>(beside: &L, rank: u32) -> bool
     beside.links().iter().any(|link| link.owner == rank)
 }
 
+// Whether a rank owns one of the leaves that are linked with some leaves.
+fn are_linked_with<L: HasLinks>(links: &[L], rank: u32) -> bool
+    ensures { result ≡ list_any (λ beside. is_owner (L.linked beside) rank) links.now }
+{
+    links.iter().any(|beside| is_linked_with(beside, rank))
+}
+
 /// Whether another rank is told in the rounds, by the links of the own leaves: it owns a linked leaf. None tells itself,
 /// though its own leaves are linked with each other.
 pub fn is_peer<L: HasLinks>(rank: u32, links: &[L], other: u32) -> bool
     ensures { result ≡ not (other == rank) && list_any (λ beside. is_owner beside other) (map L.linked links.now) }
 {
-    other != rank && links.iter().any(|beside| is_linked_with(beside, other))
+    other != rank && are_linked_with(links, other)
 }
 
 // Whether the own leaf at a place, which has these links, is refined and linked with one of a rank's. Of most leaves no link
@@ -60,12 +67,7 @@ pub fn force_told<L: HasLinks>(
 }
 
 /// What a rank tells each other in a round of a level: its leaves of that level that have a flag, by rising id.
-pub fn level_told(
-    alloc: Global,
-    marks: &Marks,
-    flag: Flag,
-    level: u32,
-) -> Result<Items<Id>, Memory>
+pub fn level_told(alloc: Global, marks: &Marks, flag: Flag, level: u32) -> Result<Items<Id>, Memory>
     ensures { IfOk result (λ ids. (rank : ℕ) (links : List (List Link)) (to : ℕ)
         → ids ≡ level_told flag level (record { rank = rank; links = links; marks = marks.now }) to) }
 {
