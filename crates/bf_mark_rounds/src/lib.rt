@@ -16,3 +16,6 @@ mod telling;
 
 pub use ends::{end_last_force_round, end_merges_round};
 pub use telling::{force_told, hear_all, is_peer, level_told};
+
+#[cfg(test)]
+mod tests;
