@@ -1,8 +1,7 @@
 -- Leaves chosen one after another.
 use Rattle.std.proofs.Common.{◌≡◌, ◌||◌, ℕ, suc, ◌+◌, ◌<◌, Bool, true, false, cond, List, [], ◌∷◌, ◌++◌, map, drop, length, get_or, refl, sym, ap, ◌∙◌, add-one, append_assoc}
-use Rattle.std.proofs.lemmas.List.{append-nil}
 use Rattle.std.specs.List.{list_any}
-use Rattle.std.proofs.Math.Seq.{drop-cons, drop-length}
+use Rattle.std.proofs.Math.Seq.{drop-cons}
 use Rattle.bf_id.specs.Id.{BlockId}
 use Rattle.bf_marks.specs.Flags.{chosen}
 use Rattle.bf_marks.proofs.ChosenLemmas.{chosen-cons}
@@ -34,11 +33,6 @@ found_more {X} test ids xs found now place i x b within beside here beside_is pa
     by : (b : Bool) → found ++ cond b (i ∷ later) later ≡ cond b (found ++ i ∷ []) found ++ later
     by true = sym (append_assoc found (i ∷ []) later)
     by false = refl
-
--- past the last leaf all are found
-pub found_all : {X : Type 0} (test : BlockId → X → Bool) (ids : List BlockId) (xs : List X) (found : List BlockId) → Found test ids xs found (length ids) → found ≡ chosen test ids xs
-found_all test ids xs found are =
-    sym (are ∙ ap (λ is. found ++ chosen test is (drop (length ids) xs)) (drop-length ids) ∙ append-nil found)
 
 -- a test of what is made of each
 pub any_of_made : {X Y : Type 0} (f : X → Y) (test : Y → Bool) (xs : List X) → list_any (λ x. test (f x)) xs ≡ list_any test (map f xs)

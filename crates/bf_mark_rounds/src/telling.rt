@@ -5,7 +5,6 @@ ghost use Rattle.bf_id.specs.Id.{level_of, BlockId};
 ghost use Rattle.bf_case.specs.Refinement.{is_among};
 ghost use Rattle.bf_links.specs.Links.{is_owner};
 ghost use Rattle.bf_links.specs.declared.link.Link.{Link};
-ghost use Rattle.bf_marks.specs.Marks.{flagged_in};
 ghost use Rattle.bf_mark_rounds.specs.Plays.{force_told, hear_all, level_told};
 
 use bf_id::Id;
