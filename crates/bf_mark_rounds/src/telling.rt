@@ -1,7 +1,7 @@
 //! Whom a rank tells of its marks in a round, and of what.
 ghost use Rattle.std.specs.Prelude.{◌≡◌, ◌<◌, ◌==◌, ◌&&◌, not, ℕ, length, map, slice_get, IfOk, List, OnOk, Some};
 ghost use Rattle.std.specs.List.{list_any};
-ghost use Rattle.bf_id.specs.Id.{level_of, BlockId};
+ghost use Rattle.bf_id.specs.Id.{BlockId};
 ghost use Rattle.bf_case.specs.Refinement.{is_among};
 ghost use Rattle.bf_links.specs.Links.{is_owner};
 ghost use Rattle.bf_links.specs.declared.link.Link.{Link};
@@ -65,7 +65,7 @@ pub fn force_told<L: HasLinks>(
     Ok(Items::of(told))
 }
 
-/// What a rank tells each other in a round of a level: its leaves of that level that have a flag, by rising id.
+/// What a rank tells each peer in a round of a level: its leaves of that level that have a flag, by rising id.
 pub fn level_told(alloc: Global, marks: &Marks, flag: Flag, level: u32) -> Result<Items<Id>, Memory>
     ensures { IfOk result (λ ids. (rank : ℕ) (links : List (List Link)) (to : ℕ)
         → ids ≡ level_told flag level (record { rank = rank; links = links; marks = marks.now }) to) }
