@@ -60,6 +60,20 @@ found_at leaves i rising has =
 pub leaves_after : (c : Case) (time : ℕ) → IsTrue (regrids c time) → ids_of (model_at c time true) ≡ new_ids c time
 leaves_after c time does = ap ids_of (cond-true (regrids c time) (regrid c (model c time)) (model c time) does) ∙ ids_of-regrid c (model c time)
 
+-- a block of the model is told by its place
+pub block_is : (c : Case) (time : ℕ) (q : BlockId) (b : BlockValue) → IsBlockAt c time q b → IsModels b → b ≡ model_block c (after_regrid time) q
+block_is c time q b at models = λ k. block_with (at.case k) (at.point k) (at.id k) (own k)
+  where
+    placed : cells_at (map_at c (after_regrid time)) q ≡ Some b.cells
+    placed =
+        ap (λ (x : Case). cells_at (map_at x (after_regrid time)) q) (sym at.case)
+        ∙ ap (λ (p : Point). cells_at (map_at b.case p) q) (sym at.point)
+        ∙ ap (cells_at (map_at b.case b.point)) (sym at.id)
+        ∙ models.leaf
+
+    own : b.cells ≡ (model_block c (after_regrid time) q).cells
+    own = sym (ap (λ (found : Option Grid). option_map_or (λ g. g) found (grid_with 0 [])) placed)
+
 module _ (c : Case) (time : ℕ) (runs : CanRun c) (does : IsTrue (regrids c time)) where
   abbrev leaves : List Leaf
   leaves = model c time
@@ -85,20 +99,6 @@ module _ (c : Case) (time : ℕ) (runs : CanRun c) (does : IsTrue (regrids c tim
   pub news_are : new_ids c time ≡ heirs_in target ids
   unfolding regridded_ids
   news_are = refl
-
-  -- a block of the model is told by its place
-  pub block_is : (q : BlockId) (b : BlockValue) → IsBlockAt c time q b → IsModels b → b ≡ new q
-  block_is q b at models = λ k. block_with (at.case k) (at.point k) (at.id k) (own k)
-    where
-      placed : cells_at (map_at c (after_regrid time)) q ≡ Some b.cells
-      placed =
-          ap (λ (x : Case). cells_at (map_at x (after_regrid time)) q) (sym at.case)
-          ∙ ap (λ (p : Point). cells_at (map_at b.case p) q) (sym at.point)
-          ∙ ap (cells_at (map_at b.case b.point)) (sym at.id)
-          ∙ models.leaf
-
-      own : b.cells ≡ (new q).cells
-      own = sym (ap cells placed)
 
   found : (i : BlockId) → Contains ids i → (g : Grid) × (cells_at leaves i ≡ Some g)
   found i has = found_at leaves i (map_of c time false runs).rising has

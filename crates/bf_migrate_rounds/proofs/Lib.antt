@@ -9,3 +9,4 @@ pub mod RoundLemmas
 pub mod TellLemmas
 pub mod BoxLemmas
 pub mod ViewLemmas
+pub mod CallLemmas

@@ -222,5 +222,5 @@ module _ (c : Case) (time : ℕ) (runs : CanRun c) (does : IsTrue (regrids c tim
   blocks_made [] blocks none models = none
   blocks_made (q ∷ qs) blocks (b, (rest, (first, (at', more)))) models =
       let both : All IsModels (b ∷ rest) = subst (All IsModels) first models in
-      first ∙ ap (λ (x : BlockValue). x ∷ rest) (block_is c time runs does q b at' (All-head IsModels b rest both))
+      first ∙ ap (λ (x : BlockValue). x ∷ rest) (block_is c time q b at' (All-head IsModels b rest both))
       ∙ ap (λ (bs : List BlockValue). now q ∷ bs) (blocks_made qs rest more (All-tail IsModels b rest both))

@@ -4,3 +4,4 @@ pub mod Plays
 pub mod Shares
 pub mod Boxes
 pub mod Views
+pub mod Calls
