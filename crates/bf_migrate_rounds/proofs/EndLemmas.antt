@@ -180,7 +180,7 @@ module _ (c : Case) (time : ℕ) (runs : CanRun c) (does : IsTrue (regrids c tim
 
   -- ---- the end
 
-  hand_has : (rank : ℕ) → IsTrue (is_member members rank) → (q : BlockId) → Contains (own_new c time owner later rank) q
+  pub hand_has : (rank : ℕ) → IsTrue (is_member members rank) → (q : BlockId) → Contains (own_new c time owner later rank) q
       → HasParts c time runs does owner later (map at (came rank (rank ∷ peers rank))) q
   hand_has rank member q has p part =
       let piece = part_is_for c time runs does owner later rank q p has part in

@@ -192,7 +192,7 @@ module _ (c : Case) (time : ℕ) (runs : CanRun c) (does : IsTrue (regrids c tim
   abbrev pub HasParts : List Cargo → BlockId → Type 0
   HasParts cargo q = (p : BlockId) → Contains (parts_for q) p → cargo_of cargo p ≡ at p ∷ []
 
-  block_made : (q : BlockId) (cargo : List Cargo) → Contains news q → (t : Target) → target (origin q) ≡ t → HasParts cargo q → made_of t cargo q ≡ now q ∷ []
+  pub block_made : (q : BlockId) (cargo : List Cargo) → Contains news q → (t : Target) → target (origin q) ≡ t → HasParts cargo q → made_of t cargo q ≡ now q ∷ []
   block_made q cargo has t e parts_in = by t e (λ p part. parts_in p (subst (λ u. Contains (parts_by u q) p) (sym e) part))
     where
       by : (t : Target) → target (origin q) ≡ t → ((p : BlockId) → Contains (parts_by t q) p → cargo_of cargo p ≡ at p ∷ []) → made_of t cargo q ≡ now q ∷ []

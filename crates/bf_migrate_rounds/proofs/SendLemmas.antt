@@ -59,7 +59,7 @@ module _ (c : Case) (time : ℕ) (runs : CanRun c) (does : IsTrue (regrids c tim
   pair = with_rank c time owner later
 
   -- the targets tell the ranks of the proxies into which blocks go
-  rank_told : (rank : ℕ) (q : BlockId) → Contains (targets rank) q → rank_in (plan_at c time owner later rank).targets q ≡ later q
+  pub rank_told : (rank : ℕ) (q : BlockId) → Contains (targets rank) q → rank_in (plan_at c time owner later rank).targets q ≡ later q
   rank_told rank q has =
       ap (λ found. option_map_or (λ (t : BlockId × ℕ). t.1) found 0)
       (find_only (λ (t : BlockId × ℕ). id_eq t.0 q) (map pair (targets rank)) (pair q) (Contains-map pair (targets rank) q has) ((id_eq_is_equal q q).1 refl)

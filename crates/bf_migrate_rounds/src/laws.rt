@@ -21,6 +21,7 @@ ghost use Rattle.bf_migrate.specs.Lots.{AreBlocksOf, Makes};
 ghost use Rattle.bf_migrate.specs.Targets.{AreTargets};
 ghost use Rattle.bf_rounds.specs.Leading.{Conserves, LeadsBy};
 ghost use Rattle.bf_migrate_rounds.specs.Boxes.{boxes_held};
+ghost use Rattle.bf_migrate_rounds.specs.Calls.{CanPack, CanUnpack};
 ghost use Rattle.bf_migrate_rounds.specs.Holdings.{blocks_in, on_hand, Holdings, Migrating};
 ghost use Rattle.bf_migrate_rounds.specs.Plays.{is_two_way, migrate_play, packed};
 ghost use Rattle.bf_migrate_rounds.specs.Shares.{cargo_told, held_after, held_before, migrating_after, migrating_before, migrating_course, new_ids, old_ids, plan_at, two_way_peers, Flows, IsCargoFor};
@@ -79,6 +80,20 @@ pub fn all_cargo_makes_its_proxies()
         → IsStrictlyIncreasing members → AreOwned (old_ids c time) owner members → AreOwned (new_ids c time) later members
         → IsTrue (is_member members rank)
         → Makes c time (plan_at c time owner later rank).proxies (on_hand (packed (plan_at c time owner later rank)
+        ((migrating_course c time owner later members).heard rank (two_way_peers c time owner later members rank)).holds)) }
+{}
+
+/// On the way and at its end a rank's blocks can become cargo. At the end all that it has on hand then can become the blocks of its
+/// proxies.
+pub fn ranks_can_pack_and_unpack()
+    ensures sent { (c : Case) (time : ℕ) (owner later : BlockId → ℕ) (members : List ℕ) (rank : ℕ) (done : List ℕ) → CanRun c → IsTrue (regrids c time)
+        → CanPack (plan_at c time owner later rank).targets ((migrating_course c time owner later members).sent rank done).holds.blocks }
+    ensures heard { (c : Case) (time : ℕ) (owner later : BlockId → ℕ) (members : List ℕ) (rank : ℕ) (done : List ℕ) → CanRun c → IsTrue (regrids c time)
+        → CanPack (plan_at c time owner later rank).targets ((migrating_course c time owner later members).heard rank done).holds.blocks }
+    ensures on_hand { (c : Case) (time : ℕ) (owner later : BlockId → ℕ) (members : List ℕ) (rank : ℕ) → CanRun c → IsTrue (regrids c time)
+        → IsStrictlyIncreasing members → AreOwned (old_ids c time) owner members → AreOwned (new_ids c time) later members
+        → IsTrue (is_member members rank)
+        → CanUnpack (plan_at c time owner later rank).proxies (on_hand (packed (plan_at c time owner later rank)
         ((migrating_course c time owner later members).heard rank (two_way_peers c time owner later members rank)).holds)) }
 {}
 
