@@ -10,3 +10,4 @@ pub mod TellLemmas
 pub mod BoxLemmas
 pub mod ViewLemmas
 pub mod CallLemmas
+pub mod CommonLemmas

@@ -15,5 +15,5 @@ mod peers;
 mod unpacking;
 
 pub use packing::{pack, take_for};
-pub use peers::is_two_way;
+pub use peers::{is_two_way, two_way};
 pub use unpacking::unpack;
