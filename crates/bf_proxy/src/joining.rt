@@ -21,7 +21,7 @@ fn put(link: Link, links: &mut Vec<Link>) -> Result<(), Memory>
 }
 
 /// The links of both lists, of which the second rises by id.
-pub(crate) fn join(alloc: Global, more: &[Link], links: &[Link]) -> Result<Vec<Link>, Memory>
+pub fn join(alloc: Global, more: &[Link], links: &[Link]) -> Result<Vec<Link>, Memory>
     requires { AllPairs ComesBefore links.now }
     ensures joined { IfOk result (λ all. all.items ≡ joined more.now links.now) }
     ensures rising { IfOk result (λ all. AllPairs ComesBefore all.items) }

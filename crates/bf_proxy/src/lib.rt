@@ -16,6 +16,7 @@ mod sources;
 pub use bf_case::Target;
 pub use bf_links::{Link, Links, Memory};
 pub use gathering::gather;
+pub use joining::join;
 pub use making::make;
 pub use proxy::Proxy;
 pub use sources::Sources;

@@ -5,3 +5,5 @@ pub mod CompleteLemmas
 pub mod SiblingsLemmas
 pub mod ViewLemmas
 pub mod LinkedLemmas
+pub mod TargetLemmas
+pub mod MakableLemmas

@@ -2,3 +2,4 @@
 pub mod Plays
 pub mod Making
 pub mod Views
+pub mod Calls

@@ -115,3 +115,15 @@ siblings_play shape = record {
   hear = λ local peer outers. with_outer outers local;
   finish = λ local. with_outer (outer_told shape local local.marking.rank) local;
 }
+
+-- where that is made into which an own leaf goes: at the home of its octet where it merges, and else at the rank
+abbrev pub own_home : Proxying → LinkedLeaf → ℕ
+own_home local leaf = if is_merge (known_target local leaf.0) then octet_home local leaf.0 leaf.1 else local.marking.rank
+
+-- links to what an own leaf goes into
+abbrev pub leaf_targets : Proxying → LinkedLeaf → List Link
+leaf_targets local leaf = map (link_to (λ q. own_home local leaf)) (goes_into (known_target local leaf.0) leaf.0)
+
+-- by rising id the proxies into which own leaves go, each once, with the rank at which it is made
+abbrev pub own_targets : Proxying → List (BlockId × ℕ)
+own_targets local = map (λ (link : Link). (link.id, link.owner)) (joined (flat_map (leaf_targets local) (linked_leaves local)) [])

@@ -6,16 +6,18 @@ ghost use Rattle.std.specs.Prelude.{◌≡◌, ◌≤◌, ◌==◌, ◌↔◌, �
 ghost use Rattle.std.specs.List.Sorted.{IsStrictlyIncreasing};
 ghost use Rattle.bf_id.specs.Id.{parent_of, BlockId};
 ghost use Rattle.bf_id.specs.declared.shape.Shape.{Shape};
-ghost use Rattle.bf_case.specs.Regrid.{regridded_ids};
+ghost use Rattle.bf_case.specs.Refinement.{is_among};
+ghost use Rattle.bf_case.specs.Regrid.{regridded_ids, target_of};
 ghost use Rattle.bf_case.specs.Wishes.{Wishes};
 ghost use Rattle.bf_links.specs.Links.{IsLinkOf};
 ghost use Rattle.bf_links.specs.declared.link.Link.{Link};
 ghost use Rattle.bf_mark_rounds.specs.Neighbors.{is_own, AreOwned};
-ghost use Rattle.bf_proxy.specs.Homes.{home_of, CanRegrid};
+ghost use Rattle.bf_proxy.specs.Homes.{go_into, home_of, CanRegrid};
 ghost use Rattle.bf_proxy.specs.Joined.{joined, AgreeOnOwners};
 ghost use Rattle.bf_proxy.specs.declared.proxy.Proxy.{Proxy};
-ghost use Rattle.bf_proxy_rounds.specs.Making.{homes_among, homes_course, linked_proxies, linked_proxying, made_proxies, made_proxying, outer_at, outer_leaves, siblings_course, unmade_proxying, IsSourceOf};
-ghost use Rattle.bf_proxy_rounds.specs.Plays.{all_gathered, homes_play, outer_told, own_homes, siblings_play, Proxying};
+ghost use Rattle.bf_proxy_rounds.specs.Calls.{CanMake};
+ghost use Rattle.bf_proxy_rounds.specs.Making.{heard_homes, homes_among, homes_course, linked_proxies, linked_proxying, made_proxies, made_proxying, outer_at, outer_leaves, proxying_of, siblings_course, unmade_proxying, IsSourceOf};
+ghost use Rattle.bf_proxy_rounds.specs.Plays.{all_gathered, homes_play, outer_told, own_homes, own_targets, siblings_play, Proxying};
 ghost use Rattle.bf_proxy_rounds.specs.Views.{in_larger, viewed, viewed_course, IsProxyView, ProxyView};
 ghost use Rattle.bf_rounds.specs.Delivering.{as_delivery};
 ghost use Rattle.bf_rounds.specs.Leading.{LeadsBy};
@@ -92,4 +94,18 @@ pub fn proxies_in_a_larger_local_lead_on<L>()
         → LeadsBy (as_delivery (siblings_play shape)) members (siblings_course shape ids w owner members) (made_proxying shape ids w owner) after
         → LeadsBy (viewed view (siblings_play shape)) members (viewed_course with (siblings_course shape ids w owner members))
         (in_larger with (made_proxying shape ids w owner)) (in_larger with after) }
+{}
+
+/// Whatever a rank has heard and made, its targets are those of the new leaves into which its own leaves go, by rising id, each
+/// once and with the rank at which its proxy is made.
+pub fn own_targets_are_where_leaves_go()
+    ensures { (shape : Shape) (levels : ℕ) (ids : List BlockId) (w : Wishes) (owner : BlockId → ℕ) (homes : List Link) (proxies : List Proxy) (rank : ℕ) → CanRegrid shape levels ids w
+        → own_targets (proxying_of shape ids w owner homes proxies rank)
+        ≡ map (λ q. (q, home_of ids owner q)) (filter (is_among (go_into (target_of shape ids w) (filter (is_own owner rank) ids))) (regridded_ids shape ids w)) }
+{}
+
+/// Of the leaves of a rank that has heard its neighbours' homes the proxies can be made.
+pub fn a_rank_can_make_its_proxies()
+    ensures { (shape : Shape) (levels : ℕ) (ids : List BlockId) (w : Wishes) (owner : BlockId → ℕ) (proxies : List Proxy) (rank : ℕ) → CanRegrid shape levels ids w
+        → CanMake shape (proxying_of shape ids w owner (heard_homes shape ids w owner rank) proxies rank) }
 {}
