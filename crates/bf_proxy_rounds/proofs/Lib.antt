@@ -7,3 +7,4 @@ pub mod ViewLemmas
 pub mod LinkedLemmas
 pub mod TargetLemmas
 pub mod MakableLemmas
+pub mod CallLemmas

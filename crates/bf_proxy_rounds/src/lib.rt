@@ -5,7 +5,20 @@
 //! each of its merging leaves, the rank that has the first of the octet, where the octet's proxy is made. Then it makes the
 //! proxies that come of its leaves, with links to those that come of linked leaves. In the round of siblings it tells the
 //! outer links of its other merging leaves to the ranks that have the first ones, so that each proxy is linked with all that
-//! touch it. There is no code: the plays of the rounds are told by the proxies that their calls work on.
+//! touch it.
+//!
+//! A rank plays the round of homes by [`own_homes`], [`hear_homes`] and [`make_all`], and that of siblings by [`outer_told`] and
+//! [`gather_all`]. [`own_targets`] are then the proxies into which its leaves go. [`laws`] has what the rounds lead to.
 #![tactic(auto)]
 
+mod going;
+mod homes;
 pub mod laws;
+mod making;
+mod near;
+mod targets;
+
+pub use bf_links::{Link, Memory};
+pub use homes::own_homes;
+pub use making::make_all;
+pub use targets::own_targets;
