@@ -105,3 +105,8 @@ module _ (shape : Shape) (levels : ℕ) (ids : List BlockId) (w : Wishes) (can :
         let kept = Contains-filter_cases (is_own owner rank) ids of.0 of.1 in
         subst (IsMakable shape rank local.marking.marks (own_homes local ++ heard)) (sym of.2) (makable of.0 kept.0 kept.1)));
   }
+
+  pub own_room : All (HasRoom local.marking.marks) (filter (is_own owner rank) ids)
+  own_room = All-from_Contains (HasRoom local.marking.marks) (filter (is_own owner rank) ids) (λ i in'.
+      let kept = Contains-filter_cases (is_own owner rank) ids i in' in
+      room i kept.0 (inl kept.1))

@@ -15,8 +15,8 @@ ghost use Rattle.bf_mark_rounds.specs.Neighbors.{is_own, AreOwned};
 ghost use Rattle.bf_proxy.specs.Homes.{go_into, home_of, CanRegrid};
 ghost use Rattle.bf_proxy.specs.Joined.{joined, AgreeOnOwners};
 ghost use Rattle.bf_proxy.specs.declared.proxy.Proxy.{Proxy};
-ghost use Rattle.bf_proxy_rounds.specs.Calls.{CanMake};
-ghost use Rattle.bf_proxy_rounds.specs.Making.{heard_homes, homes_among, homes_course, linked_proxies, linked_proxying, made_proxies, made_proxying, outer_at, outer_leaves, proxying_of, siblings_course, unmade_proxying, IsSourceOf};
+ghost use Rattle.bf_proxy_rounds.specs.Calls.{CanMake, HasRoom};
+ghost use Rattle.bf_proxy_rounds.specs.Making.{heard_homes, homes_among, homes_course, linked_proxies, linked_proxying, made_proxies, made_proxying, outer_at, outer_leaves, proxying_of, settled_marking, siblings_course, unmade_proxying, IsSourceOf};
 ghost use Rattle.bf_proxy_rounds.specs.Plays.{all_gathered, homes_play, outer_told, own_homes, own_targets, siblings_play, Proxying};
 ghost use Rattle.bf_proxy_rounds.specs.Views.{in_larger, viewed, viewed_course, IsProxyView, ProxyView};
 ghost use Rattle.bf_rounds.specs.Delivering.{as_delivery};
@@ -108,4 +108,10 @@ pub fn own_targets_are_where_leaves_go()
 pub fn a_rank_can_make_its_proxies()
     ensures { (shape : Shape) (levels : ℕ) (ids : List BlockId) (w : Wishes) (owner : BlockId → ℕ) (proxies : List Proxy) (rank : ℕ) → CanRegrid shape levels ids w
         → CanMake shape (proxying_of shape ids w owner (heard_homes shape ids w owner rank) proxies rank) }
+{}
+
+/// Below each leaf of a rank's that is refined there is room.
+pub fn a_rank_has_room()
+    ensures { (shape : Shape) (levels : ℕ) (ids : List BlockId) (w : Wishes) (owner : BlockId → ℕ) (rank : ℕ) → CanRegrid shape levels ids w
+        → All (HasRoom (settled_marking shape ids w owner rank).marks) (settled_marking shape ids w owner rank).marks.leaves }
 {}

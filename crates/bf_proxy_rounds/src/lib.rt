@@ -16,9 +16,13 @@ mod homes;
 pub mod laws;
 mod making;
 mod near;
+mod outer;
 mod targets;
+mod telling;
 
 pub use bf_links::{Link, Memory};
 pub use homes::own_homes;
 pub use making::make_all;
+pub use outer::Outer;
 pub use targets::own_targets;
+pub use telling::outer_told;
