@@ -11,3 +11,4 @@ pub mod BoxLemmas
 pub mod ViewLemmas
 pub mod CallLemmas
 pub mod CommonLemmas
+pub mod TestLemmas

@@ -17,3 +17,6 @@ mod unpacking;
 pub use packing::{pack, take_for};
 pub use peers::{is_two_way, two_way};
 pub use unpacking::unpack;
+
+#[cfg(test)]
+mod tests;
