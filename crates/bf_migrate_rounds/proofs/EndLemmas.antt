@@ -1,6 +1,6 @@
 -- At the end of the round a rank has on hand each piece for its proxies, once.
 use Rattle.std.proofs.Common.{◌≡◌, ℕ, ◌<◌, Bool, true, false, not, ◌&&◌, ◌==◌, inr, List, [], ◌∷◌, ◌++◌, map, filter, flat_map, Contains, refl, sym, ap, ◌∙◌, subst, IsTrue}
-use Rattle.std.specs.Prelude.{AllPairs}
+use Rattle.std.specs.Prelude.{AllPairs, IsPermutation}
 use Rattle.std.specs.List.Sorted.{IsStrictlyIncreasing}
 use Rattle.std.proofs.lemmas.Bool.{eqb-true}
 use Rattle.std.proofs.lemmas.List.{map-append}
@@ -158,12 +158,14 @@ module _ (c : Case) (time : ℕ) (runs : CanRun c) (does : IsTrue (regrids c tim
       one_of p (source p) (destination p == rank) members (AllPairs-from_increasing members rise)
       (source_owned c time runs does owner later members owned owned_later p has)
 
+  pub hand_once : (rank : ℕ) → IsTrue (is_member members rank) → IsPermutation (came rank (rank ∷ peers rank)) (filter (is_for rank) all)
+  hand_once rank member = once_each (passes rank) (rank ∷ peers rank) (is_for rank) all (once_on_hand rank member)
+
   pub hand_makes : (rank : ℕ) → IsTrue (is_member members rank)
       → Makes c time (map (proxy_of c time owner later) (own_new c time owner later rank)) (loads (left_with c time owner later rank (peers rank)) ++ gained rank)
   hand_makes rank member =
       subst (Makes c time (map (proxy_of c time owner later) (own_new c time owner later rank))) (sym (hand_is rank))
-      (pieces_make c time runs does owner later rank (came rank (rank ∷ peers rank))
-      (once_each (passes rank) (rank ∷ peers rank) (is_for rank) all (once_on_hand rank member)))
+      (pieces_make c time runs does owner later rank (came rank (rank ∷ peers rank)) (hand_once rank member))
 
   pub packed_makes : (rank : ℕ) → IsTrue (is_member members rank)
       → Makes c time (map (proxy_of c time owner later) (own_new c time owner later rank))
@@ -180,7 +182,7 @@ module _ (c : Case) (time : ℕ) (runs : CanRun c) (does : IsTrue (regrids c tim
 
   -- ---- the end
 
-  pub hand_has : (rank : ℕ) → IsTrue (is_member members rank) → (q : BlockId) → Contains (own_new c time owner later rank) q
+  hand_has : (rank : ℕ) → IsTrue (is_member members rank) → (q : BlockId) → Contains (own_new c time owner later rank) q
       → HasParts c time runs does owner later (map at (came rank (rank ∷ peers rank))) q
   hand_has rank member q has p part =
       let piece = part_is_for c time runs does owner later rank q p has part in

@@ -6,7 +6,8 @@ use Rattle.std.proofs.lemmas.Bool.{cond-false, eqb-true, eq-eqb, false_from_ne_t
 use Rattle.std.proofs.lemmas.List.{map-append, append-nil, get_or-map, length-map}
 use Rattle.std.proofs.lemmas.List.FromFn.{get_or-range_with_len, length-range_with_len}
 use Rattle.std.proofs.lemmas.List.Elements.{filter-append, filter_agree, Contains-append_right}
-use Rattle.std.proofs.lemmas.List.Sorted.{IsPermutation-refl, IsPermutation-trans, IsPermutation-cons, IsPermutation-append, IsPermutation-append_comm, IsPermutation-append_right}
+use Rattle.std.proofs.lemmas.List.Sums.{length-filter}
+use Rattle.std.proofs.lemmas.List.Sorted.{Contains-permutation, sum_by-IsPermutation, IsPermutation-refl, IsPermutation-trans, IsPermutation-cons, IsPermutation-append, IsPermutation-append_comm, IsPermutation-append_right}
 use Rattle.bf_lemmas.proofs.Lists.{All-from_Contains, map_each, filter_twice}
 use Rattle.bf_buddy.specs.Members.{is_member}
 use Rattle.bf_id.specs.Id.{BlockId, id_eq}
@@ -14,6 +15,7 @@ use Rattle.bf_id.specs.Walk.{IsBefore}
 use Rattle.bf_id.proofs.Boxes.{id_eq_is_equal}
 use Rattle.bf_id.proofs.Tilings.{Contains-head, Contains-tail, Contains-cons_cases, Contains-none}
 use Rattle.bf_case.proofs.SampleLemmas.{not_before_itself}
+use Rattle.bf_case.proofs.TestLemmas.{Contains-filter, Contains-filter_cases}
 
 pub map_where : {X Y : Type 0} (f g : X → Y) (xs : List X) → ((x : X) → Contains xs x → f x ≡ g x) → map f xs ≡ map g xs
 map_where f g xs same = map_each f g xs (All-from_Contains (λ x. f x ≡ g x) xs same)
@@ -199,29 +201,57 @@ module _ {X : Type 0} (x : X) (n : ℕ) (b : Bool) where
 
 -- ---- by ids
 
+-- of what rises by id one alone has its own id
+module _ {X : Type 0} (name : X → BlockId) where
+  pub only_named : (xs : List X) (x : X) → AllPairs (λ a b. IsBefore (name a) (name b)) xs → Contains xs x → filter (λ y. id_eq (name y) (name x)) xs ≡ x ∷ []
+  only_named [] x rise has = absurd (Contains-none x has)
+  only_named (y ∷ ys) x rise has =
+      by (id_eq (name y) (name x)) refl (Contains-cons_cases y ys x has) (only_named ys x (λ k l d below within. rise (suc k) (suc l) d (omega arith) (omega arith)))
+    where
+      none : (zs : List X) → ((z : X) → Contains zs z → name z ≡ name x → ⊥) → filter (λ z. id_eq (name z) (name x)) zs ≡ []
+      none [] apart = refl
+      none (z ∷ zs) apart =
+          cond-false (id_eq (name z) (name x)) (z ∷ filter (λ w. id_eq (name w) (name x)) zs) (filter (λ w. id_eq (name w) (name x)) zs)
+          (false_from_ne_true (id_eq (name z) (name x)) (λ e. apart z (Contains-head z zs) ((id_eq_is_equal (name z) (name x)).0 e)))
+          ∙ none zs (λ w has. apart w (Contains-tail z zs w has))
+
+      later : (z : X) → Contains ys z → IsBefore (name y) (name z)
+      later z (l, below, is) = subst (λ (w : X). IsBefore (name y) (name w)) is (rise 0 (suc l) z (omega arith) (omega arith))
+
+      first : name y ≡ name x → (x ≡ y) ⊎ Contains ys x → y ≡ x
+      first e (inl same) = sym same
+      first e (inr rest) = absurd (not_before_itself (name y) (subst (IsBefore (name y)) (sym e) (later x rest)))
+
+      by : (b : Bool) → id_eq (name y) (name x) ≡ b → (x ≡ y) ⊎ Contains ys x → (Contains ys x → filter (λ z. id_eq (name z) (name x)) ys ≡ x ∷ [])
+          → cond b (y ∷ filter (λ z. id_eq (name z) (name x)) ys) (filter (λ z. id_eq (name z) (name x)) ys) ≡ x ∷ []
+      by true same cases rest_is =
+          let e : name y ≡ name x = (id_eq_is_equal (name y) (name x)).0 same in
+          ap (λ zs. y ∷ zs) (none ys (λ z has e'. not_before_itself (name y) (subst (IsBefore (name y)) (e' ∙ sym e) (later z has)))) ∙ ap (λ z. z ∷ []) (first e cases)
+      by false other (inl e) rest_is = let wrong : true ≡ false = sym ((id_eq_is_equal (name y) (name x)).1 (ap name (sym e))) ∙ other in absurd (cc)
+      by false other (inr rest) rest_is = rest_is rest
+
 -- of rising ids one is itself
 pub only_itself : (ids : List BlockId) (i : BlockId) → AllPairs IsBefore ids → Contains ids i → filter (λ j. id_eq j i) ids ≡ i ∷ []
-only_itself [] i rise has = absurd (Contains-none i has)
-only_itself (j ∷ ids) i rise has =
-    by (id_eq j i) refl (Contains-cons_cases j ids i has) (only_itself ids i (λ k l d below within. rise (suc k) (suc l) d (omega arith) (omega arith)))
+only_itself ids i rise has = only_named (λ j. j) ids i rise has
+
+-- what alone passes a test does so in another order too
+pub permuted_one : {X : Type 0} (p : X → Bool) (xs ys : List X) (x : X) → IsPermutation xs ys → filter p ys ≡ x ∷ [] → filter p xs ≡ x ∷ []
+permuted_one {X = X} p xs ys x moved one = by (filter p xs) refl
   where
-    none : (js : List BlockId) → ((k : BlockId) → Contains js k → k ≡ i → ⊥) → filter (λ j. id_eq j i) js ≡ []
-    none [] apart = refl
-    none (k ∷ js) apart =
-        cond-false (id_eq k i) (k ∷ filter (λ j. id_eq j i) js) (filter (λ j. id_eq j i) js)
-        (false_from_ne_true (id_eq k i) (λ e. apart k (Contains-head k js) ((id_eq_is_equal k i).0 e)))
-        ∙ none js (λ l has. apart l (Contains-tail k js l has))
+    long : length (filter p xs) ≡ 1
+    long = length-filter p xs ∙ sym (sum_by-IsPermutation (λ z. cond (p z) 1 0) xs ys moved) ∙ sym (length-filter p ys) ∙ ap length one
 
-    later : (k : BlockId) → Contains ids k → IsBefore j k
-    later k (l, below, is) = subst (IsBefore j) is (rise 0 (suc l) k (omega arith) (omega arith))
+    only : (z : X) → (z ≡ x) ⊎ Contains [] z → z ≡ x
+    only z (inl e) = e
+    only z (inr none) = absurd (Contains-none z none)
 
-    by : (b : Bool) → id_eq j i ≡ b → (i ≡ j) ⊎ Contains ids i → (Contains ids i → filter (λ j. id_eq j i) ids ≡ i ∷ [])
-        → cond b (j ∷ filter (λ j. id_eq j i) ids) (filter (λ j. id_eq j i) ids) ≡ i ∷ []
-    by true same cases rest_is =
-        let e : j ≡ i = (id_eq_is_equal j i).0 same in
-        ap (λ js. j ∷ js) (none ids (λ k has e'. not_before_itself j (subst (IsBefore j) (e' ∙ sym e) (later k has)))) ∙ ap (λ k. k ∷ []) e
-    by false other (inl e) rest_is = let wrong : true ≡ false = sym ((id_eq_is_equal j i).1 (sym e)) ∙ other in absurd (cc)
-    by false other (inr rest) rest_is = rest_is rest
+    by : (zs : List X) → filter p xs ≡ zs → filter p xs ≡ x ∷ []
+    by [] e = absurd (let none : 0 ≡ 1 = sym (ap length e) ∙ long in omega arith)
+    by (z ∷ []) e =
+        let its = Contains-filter_cases p xs z (subst (λ zs. Contains zs z) (sym e) (Contains-head z [])) in
+        let there : Contains (filter p ys) z = Contains-filter p ys z (Contains-permutation xs ys z moved its.0) its.1 in
+        e ∙ ap (λ w. w ∷ []) (only z (Contains-cons_cases x [] z (subst (λ zs. Contains zs z) one there)))
+    by (z ∷ w ∷ zs) e = absurd (let more : length (z ∷ w ∷ zs) ≡ 1 = sym (ap length e) ∙ long in omega arith)
 
 -- values of rising ids rise
 pub rise_mapped : {X : Type 0} (key : X → BlockId) (value : BlockId → X) → ((i : BlockId) → key (value i) ≡ i) → (ids : List BlockId) → AllPairs IsBefore ids

@@ -29,6 +29,7 @@ use Rattle.bf_mark_rounds.proofs.HeardLemmas.{rising_same}
 use Rattle.bf_proxy.specs.Homes.{origin_of}
 use Rattle.bf_proxy.specs.declared.proxy.Proxy.{Proxy}
 use Rattle.bf_msg.specs.declared.linked_block.LinkedBlock.{LinkedBlock}
+use Rattle.bf_migrate_rounds.specs.Calls.{AreLotsFrom, IsLotFrom, MakesFrom}
 use Rattle.bf_migrate_rounds.specs.Plays.{assembled, cargo_of, eighths, made_of, merged_of, wholes, with_links}
 use Rattle.bf_migrate_rounds.specs.Shares.{block_after, new_ids, old_ids, own_new, proxy_of, target_at}
 use Rattle.bf_migrate_rounds.proofs.BlockLemmas.{block_is, goal, goes_to, load, load_child, load_id, load_kept, load_merged, merged_is, new, news_are, octet_is, old, parts, pieces, regridded_model}
@@ -38,6 +39,15 @@ use Rattle.bf_migrate_rounds.proofs.PieceLemmas.{From, Goes, from, goes_of, into
 eighths_of : (f : BlockId → EighthValue) (ps : List BlockId) → eighths (map (λ p. Piece (f p)) ps) ≡ map f ps
 eighths_of f [] = refl
 eighths_of f (p ∷ ps) = ap (λ es. f p ∷ es) (eighths_of f ps)
+
+-- whatever the origins of the proxies
+module _ (c : Case) (time : ℕ) where
+  lots_are : (proxies : List Proxy) (cargo : List Cargo) → AreLotsFrom c time proxies cargo → AreLots c time proxies cargo
+  lots_are [] cargo none = none
+  lots_are (proxy ∷ proxies) cargo (lot, (rest, (front, (is, more)))) = (lot, (rest, (front, (is.0, lots_are proxies rest more))))
+
+  pub makes_of : (proxies : List Proxy) (cargo : List Cargo) → MakesFrom c time proxies cargo → Makes c time proxies cargo
+  makes_of proxies cargo from = record { ordered = from.ordered; same = from.same; rising = from.rising; lots = lots_are proxies from.ordered from.lots }
 
 module _ (c : Case) (time : ℕ) (runs : CanRun c) (does : IsTrue (regrids c time)) (owner later : BlockId → ℕ) where
   abbrev ids : List BlockId
@@ -156,10 +166,16 @@ module _ (c : Case) (time : ℕ) (runs : CanRun c) (does : IsTrue (regrids c tim
   lot_is q has Refine e = ap (λ x. x ∷ []) (child_at q has e)
   lot_is q has Merge e = eighths_at q has e ∙ sym (map-map Piece (λ i. eighth_of (before i)) (children_of q))
 
-  pub are_lots : (qs : List BlockId) → ((q : BlockId) → Contains qs q → Contains news q)
-      → AreLots c time (map (proxy_of c time owner later) qs) (map at (flat_map parts_for qs))
-  are_lots [] within = refl
-  are_lots (q ∷ qs) within =
+  lot_from : (t : Target) (q : BlockId) → IsLotFrom t (lot_by t q)
+  unfolding lot_by
+  lot_from Keep q = λ e. cc
+  lot_from Refine q = λ e. cc
+  lot_from Merge q = refl
+
+  lots_from : (qs : List BlockId) → ((q : BlockId) → Contains qs q → Contains news q)
+      → AreLotsFrom c time (map (proxy_of c time owner later) qs) (map at (flat_map parts_for qs))
+  lots_from [] within = refl
+  lots_from (q ∷ qs) within =
       let t : Target = target (origin q) in
       let rest : List Cargo = map at (flat_map parts_for qs) in (
         lot_by t q,
@@ -167,15 +183,15 @@ module _ (c : Case) (time : ℕ) (runs : CanRun c) (does : IsTrue (regrids c tim
           rest,
           (
             map-append at (parts_for q) (flat_map parts_for qs) ∙ ap (λ xs. xs ++ rest) (lot_is q (within q (Contains-head q qs)) t refl),
-            (lot_goes t q, are_lots qs (λ r has. within r (Contains-tail q qs r has))),
+            ((lot_goes t q, lot_from t q), lots_from qs (λ r has. within r (Contains-tail q qs r has))),
           ),
         ),
       )
 
   -- cargo that is the pieces for a rank, in any order, makes its proxies
-  pub pieces_make : (rank : ℕ) (ps : List BlockId) → IsPermutation ps (filter (λ p. destination p == rank) (pieces c time runs does))
-      → Makes c time (map (proxy_of c time owner later) (own_later rank)) (map at ps)
-  pieces_make rank ps same =
+  pub pieces_from : (rank : ℕ) (ps : List BlockId) → IsPermutation ps (filter (λ p. destination p == rank) (pieces c time runs does))
+      → MakesFrom c time (map (proxy_of c time owner later) (own_later rank)) (map at ps)
+  pieces_from rank ps same =
       let ordered : List BlockId = flat_map parts_for (own_later rank) in
       record {
         ordered = map at ordered;
@@ -183,8 +199,12 @@ module _ (c : Case) (time : ℕ) (runs : CanRun c) (does : IsTrue (regrids c tim
         rising = rise_mapped cargo_id at (load_id c time runs does) ordered
             (subst (AllPairs IsBefore) (pieces_are_parts rank)
             (AllPairs-filter IsBefore (λ p. destination p == rank) (pieces c time runs does) (pieces_rise c.roots c.levels ids target is)));
-        lots = are_lots (own_later rank) (λ q has. (own_was_new rank q has).0);
+        lots = lots_from (own_later rank) (λ q has. (own_was_new rank q has).0);
       }
+
+  pub pieces_make : (rank : ℕ) (ps : List BlockId) → IsPermutation ps (filter (λ p. destination p == rank) (pieces c time runs does))
+      → Makes c time (map (proxy_of c time owner later) (own_later rank)) (map at ps)
+  pieces_make rank ps same = makes_of c time (map (proxy_of c time owner later) (own_later rank)) (map at ps) (pieces_from rank ps same)
 
   -- ---- the block of a proxy
 
@@ -192,7 +212,7 @@ module _ (c : Case) (time : ℕ) (runs : CanRun c) (does : IsTrue (regrids c tim
   abbrev pub HasParts : List Cargo → BlockId → Type 0
   HasParts cargo q = (p : BlockId) → Contains (parts_for q) p → cargo_of cargo p ≡ at p ∷ []
 
-  pub block_made : (q : BlockId) (cargo : List Cargo) → Contains news q → (t : Target) → target (origin q) ≡ t → HasParts cargo q → made_of t cargo q ≡ now q ∷ []
+  block_made : (q : BlockId) (cargo : List Cargo) → Contains news q → (t : Target) → target (origin q) ≡ t → HasParts cargo q → made_of t cargo q ≡ now q ∷ []
   block_made q cargo has t e parts_in = by t e (λ p part. parts_in p (subst (λ u. Contains (parts_by u q) p) (sym e) part))
     where
       by : (t : Target) → target (origin q) ≡ t → ((p : BlockId) → Contains (parts_by t q) p → cargo_of cargo p ≡ at p ∷ []) → made_of t cargo q ≡ now q ∷ []

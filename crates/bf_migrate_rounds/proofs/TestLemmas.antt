@@ -1,27 +1,23 @@
 -- A lone block that a regrid keeps can be packed and unpacked.
-use Rattle.std.proofs.Common.{◌≡◌, ℕ, Bool, true, cond, inr, List, [], ◌∷◌, ◌++◌, map, Contains, IsTrue, refl, sym, ap, ◌∙◌, subst, arith}
+use Rattle.std.proofs.Common.{◌≡◌, ◌≢◌, ℕ, true, inr, List, [], ◌∷◌, ◌++◌, map, Contains, IsTrue, refl, sym, ap, ◌∙◌, subst, arith}
 use Rattle.std.proofs.lemmas.List.Elements.{All-cons, All-nil}
 use Rattle.std.proofs.lemmas.List.Sorted.{IsPermutation-refl}
 use Rattle.bf_id.specs.Id.{BlockId, id_eq}
 use Rattle.bf_id.proofs.Boxes.{id_eq_is_equal}
 use Rattle.bf_case.specs.declared.target.Target.{Target}
-use Rattle.bf_case.specs.declared.target.Target.TheVariants.{Keep}
+use Rattle.bf_case.specs.declared.target.Target.TheVariants.{Keep, Merge}
 use Rattle.bf_case.specs.Model.{regrids}
 use Rattle.bf_block.specs.declared.cargo.Cargo.{Cargo}
 use Rattle.bf_block.specs.declared.cargo.Cargo.TheVariants.{Whole}
 use Rattle.bf_block.specs.declared.point.Point.{Point}
-use Rattle.bf_block.specs.Block.{BlockValue, IsModels, IsRegriddedTo, after_regrid, before_regrid, kept_block}
-use Rattle.bf_block.proofs.BlockLemmas.{kept_is_models}
-use Rattle.bf_block.proofs.Wishing.{kept_stays}
+use Rattle.bf_block.specs.Block.{BlockValue, IsRegriddedTo, after_regrid, before_regrid, kept_block}
 use Rattle.bf_links.specs.declared.link.Link.{Link}
 use Rattle.bf_migrate.specs.Giving.{Gift, gifts_by}
 use Rattle.bf_migrate.specs.Lots.{IsBlockAt, Ready}
 use Rattle.bf_migrate.specs.Targets.{proxies_of}
 use Rattle.bf_proxy.specs.declared.proxy.Proxy.{Proxy}
 use Rattle.bf_migrate_rounds.specs.Calls.{CanPack, CanUnpack}
-use Rattle.bf_migrate_rounds.specs.Plays.{made_of, rank_in, wholes}
-use Rattle.bf_migrate_rounds.specs.Shares.{model_block}
-use Rattle.bf_migrate_rounds.proofs.BlockLemmas.{block_is}
+use Rattle.bf_migrate_rounds.specs.Plays.{rank_in}
 
 module _ (b : BlockValue) (first : b.point ≡ before_regrid 0) (keeps : IsRegriddedTo Keep b.case b.point b.id) where
   does : IsTrue (regrids b.case 0)
@@ -55,27 +51,18 @@ module _ (b : BlockValue) (first : b.point ≡ before_regrid 0) (keeps : IsRegri
   abbrev goods : List Cargo
   goods = Whole kept ∷ []
 
-  abbrev IsMade : Proxy → Type 0
-  IsMade p = made_of p.origin goods p.id ≡ model_block b.case (after_regrid 0) p.id ∷ []
-
-  made : IsModels b → (p : Proxy) → p.id ≡ b.id → p.origin ≡ Keep → IsBlockAt b.case 0 p.id kept → IsMade p
-  made models p id keep at =
-      let own : IsModels kept = kept_is_models b b refl models keeps.fresh (kept_stays b models keeps) in
-      let same : id_eq b.id p.id ≡ true = (id_eq_is_equal b.id p.id).1 (sym id) in
-      ap (λ t. made_of t goods p.id) keep ∙ ap (λ (found : Bool). wholes (cond found goods [])) same
-      ∙ ap (λ x. x ∷ []) (block_is b.case 0 p.id kept at own)
-
-  pub can_unpack_kept : IsModels b → (p : Proxy) → p.id ≡ b.id → p.origin ≡ Keep → CanUnpack (p ∷ []) goods
-  can_unpack_kept models p id keep =
+  pub can_unpack_kept : (p : Proxy) → p.id ≡ b.id → p.origin ≡ Keep → CanUnpack (p ∷ []) goods
+  can_unpack_kept p id keep =
       let at : IsBlockAt b.case 0 p.id kept = record { case = refl; point = ap (λ (x : Point). after_regrid x.time) first; id = sym id } in
-      record {
-        case = b.case;
-        time = 0;
-        makes = record {
-          ordered = goods;
-          same = IsPermutation-refl goods;
-          rising = λ i j d below within. absurd (omega arith);
-          lots = (Ready kept, ([], (refl, (at, refl))));
-        };
-        models = All-cons IsMade p [] (made models p id keep at) (All-nil IsMade);
-      }
+      let other : p.origin ≢ Merge = λ merges. let wrong : Keep ≡ Merge = sym keep ∙ merges in cc in (
+        b.case,
+        (
+          0,
+          record {
+            ordered = goods;
+            same = IsPermutation-refl goods;
+            rising = λ i j d below within. absurd (omega arith);
+            lots = (Ready kept, ([], (refl, ((at, other), refl))));
+          },
+        ),
+      )

@@ -2,7 +2,7 @@
 ghost use Rattle.std.specs.Prelude.{◌≡◌, [], ◌∷◌, IfOk};
 ghost use Rattle.bf_id.specs.Id.{root_id};
 ghost use Rattle.bf_case.specs.declared.target.Target.TheVariants.{Keep};
-ghost use Rattle.bf_block.specs.Block.{before_regrid, kept_block, IsModels, IsRegriddedTo};
+ghost use Rattle.bf_block.specs.Block.{before_regrid, kept_block, IsRegriddedTo};
 ghost use Rattle.bf_block.specs.declared.cargo.Cargo.TheVariants.{Whole};
 
 use crate::{is_two_way, pack, take_for, two_way, unpack};
@@ -53,7 +53,6 @@ fn lone(alloc: Global) -> Result<Case, Memory> {
 fn root(rt: &impl Abort, alloc: Global) -> Result<Block, Memory>
     ensures id { IfOk result (λ block. block.id ≡ root_id 0) }
     ensures point { IfOk result (λ block. block.point ≡ before_regrid 0) }
-    ensures models { IfOk result (λ block. IsModels block) }
     ensures kept { IfOk result (λ block. IsRegriddedTo Keep block.case block.point block.id) }
 {
     let case = lone(alloc)?;
@@ -110,7 +109,6 @@ fn proxies(alloc: Global) -> Result<Items<Proxy>, Memory>
 fn unpacked(rt: &impl Abort, alloc: Global, block: Block) -> Result<Items<LinkedBlock>, Memory>
     requires id { block.id ≡ root_id 0 }
     requires point { block.point ≡ before_regrid 0 }
-    requires models { IsModels block }
     requires kept { IsRegriddedTo Keep block.case block.point block.id }
 {
     let mut cargo = packed(rt, alloc, block)?;

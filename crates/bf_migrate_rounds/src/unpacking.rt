@@ -2,7 +2,7 @@
 ghost use Rattle.std.specs.Prelude.{◌≡◌, ◌++◌, [], length, map, All, IfOk, OnOk};
 ghost use Rattle.std.specs.List.{zip};
 ghost use Rattle.bf_block.specs.Block.{IsModels};
-ghost use Rattle.bf_migrate_rounds.specs.Calls.{linked_to, CanUnpack};
+ghost use Rattle.bf_migrate_rounds.specs.Calls.{linked_to, CanUnpack, IsKnown};
 ghost use Rattle.bf_migrate_rounds.specs.Holdings.{loads};
 ghost use Rattle.bf_migrate_rounds.specs.Plays.{assembled};
 
@@ -40,6 +40,29 @@ fn all_known(blocks: &[Block])
     }
 }
 
+// What is known of cargo.
+fn known(part: &Cargo)
+    ensures { IsKnown part.now }
+{
+    match part {
+        Cargo::Whole(block) => {
+            let _model = block.cells();
+        }
+        Cargo::Piece(eighth) => {
+            let _model = eighth.id();
+        }
+    }
+}
+
+// What is known of all of some cargo.
+fn all_parts_known(parts: &[Cargo])
+    ensures { All IsKnown parts.now }
+{
+    for part in parts {
+        known(part);
+    }
+}
+
 // Blocks, each with the links of the proxy that stands at its place.
 fn linked(
     alloc: Global,
@@ -60,6 +83,9 @@ fn linked(
 
 /// Makes of all cargo on hand one block for each proxy, linked as that, in the proxies' order. Blocks and links are moved, not
 /// copied.
+///
+/// The cargo is in any order. By rising id it is for each proxy in turn the eighths of the eight leaves that merge into it, where
+/// that is its origin, and else one whole block, and nothing else.
 pub fn unpack(
     alloc: Global,
     proxies: Items<Proxy>,
@@ -72,6 +98,7 @@ pub fn unpack(
     ensures arrived { OnOk result (arrived.new ≡ []) }
 {
     let parts = on_hand(alloc, cargo.moved(), arrived.moved())?;
+    all_parts_known(parts.as_slice());
     let proxies = proxies.into_vec();
     let blocks = assemble(alloc, parts, proxies.as_slice())?;
     all_known(blocks.as_slice());

@@ -32,4 +32,4 @@ unpack-requires g c =
     ∙ ap (λ (xs : List (ℕ × Cargo)). loads (cargo_without 1 xs) ++ cargo_for 1 xs) (first ∙ ap (cargo_without 0) packed) in
     subst (λ (ps : List Proxy). CanUnpack ps (loads c.take_for-2.new.cargo ++ c.in_ok-arrived-2.arrived)) (sym proxies)
     (subst (λ (xs : List Cargo). CanUnpack (proxy ∷ []) xs) (sym on_hand)
-    (can_unpack_kept b c.requires.point c.requires.kept c.requires.models proxy (sym c.requires.id) refl))
+    (can_unpack_kept b c.requires.point c.requires.kept proxy (sym c.requires.id) refl))
