@@ -8,3 +8,4 @@ pub mod LinkedLemmas
 pub mod TargetLemmas
 pub mod MakableLemmas
 pub mod CallLemmas
+pub mod GatherLemmas

@@ -1,5 +1,5 @@
 -- What the calls of a rank are given, and what is asked of it.
-use Rattle.std.specs.Prelude.{◌≡◌, ℕ, ◌<◌, ◌≤◌, not, List, [], ◌++◌, All, AllPairs, Contains, filter, flat_map, length, map, unwrap_or}
+use Rattle.std.specs.Prelude.{◌≡◌, ℕ, ◌<◌, ◌≤◌, not, List, [], ◌∷◌, ◌++◌, All, AllPairs, Contains, filter, flat_map, length, map, unwrap_or}
 use Rattle.bf_id.specs.declared.shape.Shape.{Shape}
 use Rattle.bf_id.specs.Id.{BlockId, InShape, level_of, parent_of}
 use Rattle.bf_id.specs.Walk.{IsBefore}
@@ -11,10 +11,10 @@ use Rattle.bf_links.specs.Links.{link_to, owner_of, touching, ComesBefore}
 use Rattle.bf_links.specs.declared.link.Link.{Link}
 use Rattle.bf_marks.specs.Marks.{target_by, MarksValue}
 use Rattle.bf_proxy.specs.Homes.{goes_into}
-use Rattle.bf_proxy.specs.Joined.{joined}
+use Rattle.bf_proxy.specs.Joined.{joined, AgreeOnOwners}
 use Rattle.bf_proxy.specs.Proxies.{known_links, proxies_of, sources_by}
 use Rattle.bf_proxy.specs.declared.proxy.Proxy.{Proxy}
-use Rattle.bf_proxy_rounds.specs.Plays.{linked_leaves, own_homes, LinkedLeaf, Proxying}
+use Rattle.bf_proxy_rounds.specs.Plays.{all_gathered, linked_leaves, own_homes, LinkedLeaf, Outer, Proxying}
 
 -- a rank of these marks of its leaves, of the leaves' links in their order, and of these homes of which it heard
 abbrev pub knowing : (rank : ℕ) → MarksValue → (links : List (List Link)) → (homes : List Link) → Proxying
@@ -70,3 +70,17 @@ pub record CanMake (shape : Shape) (local : Proxying) : Type 0 where
   pub rising : AllPairs IsBefore local.marking.marks.leaves
   pub heard : AllPairs ComesBefore local.homes
   pub leaves : All (IsMakable shape local.marking.rank local.marking.marks (own_homes local ++ local.homes)) (linked_leaves local)
+
+-- proxies by rising id
+abbrev pub ProxiesRise : List Proxy → Type 0
+ProxiesRise proxies = AllPairs (λ (a b : Proxy). IsBefore a.id b.id) proxies
+
+-- what is asked of outer links, so that the proxy of their parent, if it is among some, can gather them
+pub record IsGatherable (outer : Outer) (proxies : List Proxy) : Type 0 where
+  pub few : All (λ (proxy : Proxy). outer.0 ≡ proxy.id → length (joined outer.1 proxy.links) ≤ 56) proxies
+  pub agree : All (λ (proxy : Proxy). outer.0 ≡ proxy.id → AgreeOnOwners outer.1 proxy.links) proxies
+
+-- and of several, that are gathered one after another
+pub record CanGather (outers : List Outer) (proxies : List Proxy) : Type 0 where
+  pub rising : ProxiesRise proxies
+  pub each : (before later : List Outer) (outer : Outer) → outers ≡ before ++ outer ∷ later → IsGatherable outer (map (all_gathered before) proxies)

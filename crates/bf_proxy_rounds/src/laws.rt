@@ -15,7 +15,7 @@ ghost use Rattle.bf_mark_rounds.specs.Neighbors.{is_own, AreOwned};
 ghost use Rattle.bf_proxy.specs.Homes.{go_into, home_of, CanRegrid};
 ghost use Rattle.bf_proxy.specs.Joined.{joined, AgreeOnOwners};
 ghost use Rattle.bf_proxy.specs.declared.proxy.Proxy.{Proxy};
-ghost use Rattle.bf_proxy_rounds.specs.Calls.{CanMake, HasRoom};
+ghost use Rattle.bf_proxy_rounds.specs.Calls.{CanGather, CanMake, HasRoom};
 ghost use Rattle.bf_proxy_rounds.specs.Making.{heard_homes, homes_among, homes_course, linked_proxies, linked_proxying, made_proxies, made_proxying, outer_at, outer_leaves, proxying_of, settled_marking, siblings_course, unmade_proxying, IsSourceOf};
 ghost use Rattle.bf_proxy_rounds.specs.Plays.{all_gathered, homes_play, outer_told, own_homes, own_targets, siblings_play, Proxying};
 ghost use Rattle.bf_proxy_rounds.specs.Views.{in_larger, viewed, viewed_course, IsProxyView, ProxyView};
@@ -114,4 +114,10 @@ pub fn a_rank_can_make_its_proxies()
 pub fn a_rank_has_room()
     ensures { (shape : Shape) (levels : ℕ) (ids : List BlockId) (w : Wishes) (owner : BlockId → ℕ) (rank : ℕ) → CanRegrid shape levels ids w
         → All (HasRoom (settled_marking shape ids w owner rank).marks) (settled_marking shape ids w owner rank).marks.leaves }
+{}
+
+/// Whatever leaves' outer links the proxies that a rank made have gathered, those of any leaves can be gathered.
+pub fn a_rank_can_gather()
+    ensures { (shape : Shape) (levels : ℕ) (ids : List BlockId) (w : Wishes) (owner : BlockId → ℕ) (rank : ℕ) (before leaves : List BlockId) → CanRegrid shape levels ids w
+        → CanGather (map (outer_at shape ids w owner) leaves) (map (all_gathered (map (outer_at shape ids w owner) before)) (made_proxies shape ids w owner rank)) }
 {}

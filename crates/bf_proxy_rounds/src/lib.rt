@@ -11,6 +11,7 @@
 //! [`gather_all`]. [`own_targets`] are then the proxies into which its leaves go. [`laws`] has what the rounds lead to.
 #![tactic(auto)]
 
+mod gathering;
 mod going;
 mod homes;
 pub mod laws;
@@ -21,6 +22,7 @@ mod targets;
 mod telling;
 
 pub use bf_links::{Link, Memory};
+pub use gathering::gather_all;
 pub use homes::own_homes;
 pub use making::make_all;
 pub use outer::Outer;
